@@ -1,0 +1,68 @@
+-- Laws of finite sums.
+-- Assumes nothing.
+use mathlib.Core.Path.{_≡_, refl, sym, ap, ap₂, subst, _∙_}
+use mathlib.Core.Logic.{_≢_, ⊎-elim}
+use Prim.Native.Nat.{ℕ, zero, suc, _+_, _*_, _≤_, _<_}
+use native.Mathlib.Nat.{add-zero, add-suc, add-assoc, zero-add, le-refl, mul-zero, not-suc-le-zero}
+use native.Mathlib.Numerals.{add-one}
+use native.Mathlib.Omega.{arith}
+use Rattle.algebra.specs.Sum.{sum}
+use Rattle.algebra.proofs.Booleans.{below-or}
+
+pub sum-le : (f g : ℕ → ℕ) (first count : ℕ) → ((k : ℕ) → first ≤ k → k < first + count → f k ≤ g k)
+    → sum f first count ≤ sum g first count
+unfolding sum
+sum-le f g first zero h = le-refl 0
+sum-le f g first (suc c) h =
+    let a = sum-le f g first c (λ k l u. h k l (omega arith)) in
+    let b = h (first + c) (omega arith) (omega arith) in
+    omega arith
+
+pub sum-ext : (f g : ℕ → ℕ) (first count : ℕ) → ((k : ℕ) → first ≤ k → k < first + count → f k ≡ g k)
+    → sum f first count ≡ sum g first count
+unfolding sum
+sum-ext f g first zero h = refl
+sum-ext f g first (suc c) h = ap₂ _+_ (sum-ext f g first c (λ k l u. h k l (omega arith))) (h (first + c) (omega arith) (omega arith))
+
+pub sum-add : (f g : ℕ → ℕ) (first count : ℕ) → sum (λ k. f k + g k) first count ≡ sum f first count + sum g first count
+unfolding sum
+sum-add f g first zero = refl
+sum-add f g first (suc c) = let a = sum-add f g first c in omega arith
+
+pub sum-mul : (d : ℕ) (f : ℕ → ℕ) (first count : ℕ) → sum (λ k. d * f k) first count ≡ d * sum f first count
+unfolding sum
+sum-mul d f first zero = sym (mul-zero d)
+sum-mul d f first (suc c) = let a = sum-mul d f first c in omega arith
+
+pub sum-split : (f : ℕ → ℕ) (first c d : ℕ) → sum f first (c + d) ≡ sum f first c + sum f (first + c) d
+unfolding sum
+sum-split f first c zero = ap (sum f first) (add-zero c) ∙ sym (add-zero _)
+sum-split f first c (suc d) =
+    ap (sum f first) (add-suc c d)
+    ∙ ap₂ _+_ (sum-split f first c d) (ap f (sym (add-assoc first c d)))
+    ∙ add-assoc (sum f first c) (sum f (first + c) d) (f (first + c + d))
+
+-- none, and one more, as a loop meets them
+pub sum-none : (f : ℕ → ℕ) (first : ℕ) → sum f first 0 ≡ 0
+unfolding sum
+sum-none f first = refl
+
+pub sum-next : (f : ℕ → ℕ) (first c : ℕ) → sum f first (c + 1) ≡ sum f first c + f (first + c)
+unfolding sum
+sum-next f first c = ap (sum f first) (add-one c)
+
+pub sum-zero : (f : ℕ → ℕ) (first count : ℕ) → ((k : ℕ) → f k ≡ 0) → sum f first count ≡ 0
+unfolding sum
+sum-zero f first zero h = refl
+sum-zero f first (suc c) h = ap₂ _+_ (sum-zero f first c h) (h (first + c))
+
+-- one summand grows by x
+pub sum-bump : (g g′ : ℕ → ℕ) (count j x : ℕ) → j < count → g′ j ≡ g j + x → ((i : ℕ) → i ≢ j → g i ≡ g′ i)
+    → sum g′ 0 count ≡ sum g 0 count + x
+unfolding sum
+sum-bump g g′ zero j x h e o = absurd (not-suc-le-zero h)
+sum-bump g g′ (suc c) j x h e o = ⊎-elim
+    (λ l. let a = sum-bump g g′ c j x l e o in let b = o (0 + c) (λ q. omega (arith, q)) in omega (arith, a, b))
+    (λ d. let a = sum-ext g g′ 0 c (λ i l u. o i (λ q. omega (arith, q))) in
+    let b = subst (λ (n : ℕ). g′ n ≡ g n + x) (d ∙ sym (zero-add c)) e in omega (arith, a, b))
+    (below-or j c h)

@@ -1,0 +1,1 @@
+// Laws of numbers that the other crates share. No code.
