@@ -1,0 +1,1 @@
+// The interval in which the exact sum lies. No code.

@@ -1,0 +1,1 @@
+// A formula as a value: its rows, the terms of a row and their sums.
