@@ -1,7 +1,7 @@
 pub mod Terms
 pub mod Bound
 pub mod Tail
-pub mod TailBellard
+pub mod Bellard
 pub mod Counts
 pub mod Denominator
 pub mod Settling

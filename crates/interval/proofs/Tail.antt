@@ -108,9 +108,9 @@ module _ (F : Formula) (p K : ℕ) (positive : Positive F)
       e ∙ zero-mul (sideSum F side (λ r k. 0) 0 L)
 
   -- (ii)
-  pub tail-below : RestBelowUnit F p K
+  pub rest-below : RestBelowUnit F p K
   unfolding RestBelowUnit
-  tail-below D count d whole side =
+  rest-below D count d whole side =
       subst (λ (x : ℕ). x + sideSum F side (exactTimes F p D) K count < D) (sym (no-uncharged D side K))
       (subst (λ (x : ℕ). x < D) (sym (zero-add (sideSum F side (exactTimes F p D) K count)))
       (geometric-below (2 ^ F .step) D (λ c. sideSum F side (exactTimes F p D) K c) (λ c. sideSum F side (exactTimes F p D) (K + c) 1)

@@ -1,0 +1,1 @@
+// Arithmetic of one and of two words, and little-endian numbers in bytes.
