@@ -1,4 +1,5 @@
--- The exact sum of a formula at every length from K on, against the sum of the sizes of its first K terms.
+-- The exact sum of the first K terms of every row against the sum of their sizes: D for each charged term, on each side.
+-- Assumes nothing.
 use mathlib.Core.Path.{_≡_, refl, sym, ap, ap₂, _∙_, subst}
 use mathlib.Core.Bool.{Bool, true, false, cond}
 use mathlib.Core.List.{List·Memᴰ}
@@ -66,7 +67,8 @@ module _ (F : Formula) (p : ℕ) (positive : Positive F) where
         (e₂ ∙ ap (λ (x : ℕ). x + sideSum F side one 0 K) (e₃ ∙ ap (λ (x : ℕ). sideSum F side (size F p) 0 K + x) e₄))))
         (side-le F side (exactTimes F p D) (λ r k. D * (size F p r k + modulus * carry F p r k + one r k) + unchargedTimes F p D r k) 0 K term-high)
 
--- the numbers of `within`, with nothing of a formula: X⁺ and X⁻ are the exact sums of the two sides, Q⁺, Q⁻ those of the sizes, c⁺ and c⁻ the carries
+-- The two ends in plain numbers: X⁺ and X⁻ are the exact sums of the two sides, H and T their parts below and from K on, V the
+-- uncharged terms, Q⁺ and Q⁻ the sums of the sizes, c⁺ and c⁻ the carries.
 module _ (D M total a b X⁺ X⁻ H⁺ H⁻ T⁺ T⁻ V⁺ V⁻ Q⁺ Q⁻ c⁺ c⁻ u v : ℕ)
     (x⁺ : X⁺ ≡ H⁺ + T⁺) (x⁻ : X⁻ ≡ H⁻ + T⁻) (t⁺ : V⁺ + T⁺ < D) (t⁻ : V⁻ + T⁻ < D)
     (l⁺ : D * (Q⁺ + M * c⁺) ≤ H⁺) (l⁻ : D * (Q⁻ + M * c⁻) ≤ H⁻)

@@ -1,4 +1,5 @@
--- How many terms of a run of Bellard's formula are added, and how many subtracted.
+-- a and b of a run of Bellard's formula, counted term by term, in closed form for even and odd K.
+-- Assumes nothing.
 use mathlib.Core.Path.{_≡_, refl, sym, ap, _∙_}
 use mathlib.Core.Bool.{Bool, true, false, cond}
 use Prim.Native.Nat.{ℕ, zero, suc, _+_, _*_, _%_}

@@ -1,4 +1,5 @@
--- 2 ^ (step L) times the product of all N up to L makes each exact term whole, so that there is such a number at every length.
+-- 2 ^ (step * L) times the product of all N up to L is above 0 and makes each exact term whole: there is such a D at every length.
+-- Assumes nothing.
 use mathlib.Core.Path.{_≡_, refl, sym, ap, _∙_}
 use mathlib.Core.List.{List, [], _∷_, List·Memᴰ, List·Memᴰ·head, List·Memᴰ·tail}
 use mathlib.Core.Bool.{Bool, true, false}
@@ -20,7 +21,7 @@ products : List Row → ℕ → ℕ
 products [] L = 1
 products (r ∷ rs) L = product r L * products rs L
 
-pub denominator : Formula → ℕ → ℕ
+denominator : Formula → ℕ → ℕ
 denominator F L = 2 ^ (F .step * L) * products (F .rows) L
 
 in-product : (r : Row) (L k : ℕ) → k < L → (c : ℕ) × (product r L ≡ divisor r k * c)
@@ -47,7 +48,7 @@ in-products (x ∷ rs) L r (List·Memᴰ·tail m) =
 regroup : (A a b P q N c d R : ℕ) → A ≡ a * b → P ≡ q * d → q ≡ N * c → A * P * R ≡ N * a * (b * c * d * R)
 regroup A a b P q N c d R e f g = rw (e, f, g) (omega arith)
 
-pub makes-whole : (F : Formula) (p L : ℕ) → MakesWhole F p L (denominator F L)
+makes-whole : (F : Formula) (p L : ℕ) → MakesWhole F p L (denominator F L)
 unfolding MakesWhole denominator
 makes-whole F p L r m k h =
     let i = in-products (F .rows) L r m in
@@ -58,3 +59,21 @@ makes-whole F p L r m k h =
     ap (λ (n : ℕ). n % (divisor r k * 2 ^ fall F k))
     (regroup (2 ^ (st * L)) (2 ^ (st * k)) (2 ^ (st * (L - k))) (products (F .rows) L) (product r L) (divisor r k) (j .0) (i .0) (2 ^ rise p r) f (i .1) (j .1))
     ∙ mul-mod-right (divisor r k * 2 ^ fall F k) (2 ^ (st * (L - k)) * j .0 * i .0 * 2 ^ rise p r)
+
+product-pos : (r : Row) (L : ℕ) → ((k : ℕ) → 0 < divisor r k) → 0 < product r L
+unfolding product
+product-pos r zero h = omega arith
+product-pos r (suc L) h = mul-pos (product-pos r L h) (h L)
+
+products-pos : (rs : List Row) (L : ℕ) → ((r : Row) → List·Memᴰ r rs → (k : ℕ) → 0 < divisor r k) → 0 < products rs L
+unfolding products
+products-pos [] L h = omega arith
+products-pos (r ∷ rs) L h =
+    mul-pos (product-pos r L (h r (List·Memᴰ·head refl))) (products-pos rs L (λ x m. h x (List·Memᴰ·tail m)))
+
+denominator-pos : (F : Formula) (L : ℕ) → Positive F → 0 < denominator F L
+unfolding denominator Positive
+denominator-pos F L positive = mul-pos (pow-pos (F .step * L)) (products-pos (F .rows) L positive)
+
+pub whole-exists : (F : Formula) (p L : ℕ) → Positive F → (D : ℕ) × (0 < D) × MakesWhole F p L D
+whole-exists F p L positive = (denominator F L, denominator-pos F L positive, makes-whole F p L)

@@ -4,4 +4,5 @@ pub mod Tail
 pub mod Bellard
 pub mod Counts
 pub mod Denominator
+pub mod Digits
 pub mod Settling

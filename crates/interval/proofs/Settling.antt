@@ -1,4 +1,6 @@
--- (iii) The exact sum at every length from K on lies from low to high modulo 2 ^ 128, and (iv) a quotient that low and high share is its own.
+-- For any list of rows whose N are at least 1 and whose uncharged terms stay below a unit: the exact sum at every length from K on
+-- lies from low to high modulo 2 ^ 128, and where low and high share a quotient, the exact sum has its lowest digits.
+-- Assumes nothing.
 use mathlib.Core.Path.{_≡_, refl, sym, ap, ap₂, _∙_, subst}
 use mathlib.Core.List.{List·Memᴰ}
 use Prim.Native.Nat.{ℕ, zero, suc, _+_, _*_, _-_, _/_, _%_, _^_, _≤_, _<_}
@@ -6,16 +8,19 @@ use native.Mathlib.Nat.{zero-add, lt-of-mul-lt-mul-right, mul-le-mul-left, mul-l
 use native.Mathlib.Omega.{arith}
 use lib.Pow.{pow-pos}
 use lib.IntN.{ℤ, pos, subℕ, negℤ, _-ℤ_, _+ℤ_, _*ℤ_}
-use lib.Signed.{_≤ℤ_, shrZ}
+use lib.Signed.{shrZ}
 use Rattle.algebra.specs.Whole.{residue, quotient}
 use Rattle.series.specs.Series.{Row, Formula, Side, plus, minus, modulus, size, sideSum, sizesSum}
 use Rattle.interval.specs.Exact.{exactTimes, exactSum, MakesWhole}
-use Rattle.interval.specs.Interval.{charges, unchargedTimes, Positive, RestBelowUnit, low, high, LiesFrom}
+use Rattle.interval.specs.Digits.{hexText, lowDigits}
+use Rattle.interval.specs.Interval.{Settles, unitAt, charges, unchargedTimes, Positive, RestBelowUnit, low, high, LiesFrom}
 use Rattle.series.proofs.Sides.{side-split}
+use Rattle.interval.proofs.Tail.{pow-step}
+use Rattle.interval.proofs.Digits.{split-modulus}
 use Rattle.interval.proofs.Bound.{carry, head-low, head-high, low-side, high-side}
 use Rattle.algebra.proofs.Integers.{Diff, diff-sub, diff-add, diff-neg, diff-mul-pos, diff-pos-mul, diff-le, diff-self, above, beneath, floor-low, floor-high, residue-is, residue-eq, turns, back}
 
--- the same in naturals
+-- the exact sum, as the difference of its two sides, lies from low to high, in naturals
 pub record Near (D M total a b X⁺ X⁻ : ℕ) : Type 0 where
   pub y : ℕ
   pub z : ℕ
@@ -62,7 +67,6 @@ module _ (F : Formula) (p K : ℕ) (positive : Positive F) (tail : RestBelowUnit
         upto = high-side D modulus (residue modulus q) a b _ _ _ _ _ _ _ _ Q⁺ Q⁻ c⁺ c⁻ (back modulus q) (turns modulus q) (cut plus) (cut minus) (t plus) (t minus) (l plus) (l minus) (u plus) (u minus) r;
       }
 
-  -- (iii)
   pub lies-from : (D L : ℕ) → 0 < D → K ≤ L → MakesWhole F p L D
       → LiesFrom D (low F p K (sizesSum F p K)) (high F p K (sizesSum F p K)) (exactSum F p D L)
   unfolding LiesFrom low high exactSum
@@ -90,7 +94,7 @@ same-quotient U m s t s′ t′ y z X⁺ X⁻ l h l′ h′ =
     let v = lt-of-mul-lt-mul-right U down in
     omega (arith, u, v)
 
--- (iv) where low and high have the same quotient by W, with 2 ^ 128 = m W, the quotient of X by D W leaves the same modulo m
+-- where low and high have the same quotient by W, with 2 ^ 128 = m W, the quotient of X by D W leaves the same modulo m
 module _ (D m W total a b X⁺ X⁻ : ℕ) (Q : ℤ) (d : 0 < D) (w : 0 < W) (m⁺ : 0 < m) (M : ℕ) (M-is : M ≡ m * W)
     (near : Near D M total a b X⁺ X⁻)
     (lo : shrZ (subℕ total (b + 1)) W ≡ Q) (hi : shrZ (pos (total + a + 1)) W ≡ Q) where
@@ -122,3 +126,20 @@ module _ (D m W total a b X⁺ X⁻ : ℕ) (Q : ℤ) (d : 0 < D) (w : 0 < W) (m�
       scaled s t (diff-self Q)
       (floor-low (subℕ total (b + 1)) W w (diff-sub total (b + 1)) dl)
       (floor-high (pos (total + a + 1)) W w top dh)
+
+-- the lowest d digits of X / (D * 2 ^ (128 - 4 d)) are those of the quotient that low and high share
+pub shared-digits : (F : Formula) (p K : ℕ) → Positive F → RestBelowUnit F p K
+    → (d : ℕ) → Settles (low F p K (sizesSum F p K)) (high F p K (sizesSum F p K)) d
+    → (D L : ℕ) → 0 < D → K ≤ L → MakesWhole F p L D
+    → lowDigits d (quotient (exactSum F p D L) (D * unitAt d)) ≡ lowDigits d (quotient (low F p K (sizesSum F p K)) (unitAt d))
+unfolding Settles low high exactSum lowDigits
+shared-digits F p K positive rest d s D L dp h whole =
+    let X⁺ = sideSum F plus (exactTimes F p D) 0 L in
+    let X⁻ = sideSum F minus (exactTimes F p D) 0 L in
+    let total = sizesSum F p K in
+    let a = charges F plus p K in
+    let b = charges F minus p K in
+    ap (hexText d)
+    (settles D (16 ^ d) (unitAt d) total a b X⁺ X⁻ (quotient (subℕ total (b + 1)) (unitAt d)) dp (pow-pos (128 - 4 * d))
+    (subst (λ (x : ℕ). 0 < x) (pow-step 4 d) (pow-pos (4 * d))) modulus (split-modulus d (s .1))
+    (near F p K positive rest D L dp h whole) refl (sym (s .2)))

@@ -1,4 +1,6 @@
--- The exact terms from K on add up to less than one unit on each side, where the rows' first exponents are small enough for K.
+-- The exact terms from K on add up to less than one unit on each side, where the rows' first exponents are small enough for K:
+-- each column of terms is at most 2 ^ -step of the one before it, so that they add up as a geometric series.
+-- Assumes nothing.
 use mathlib.Core.Path.{_≡_, refl, sym, ap, ap₂, _∙_, subst}
 use mathlib.Core.Bool.{Bool, true, false, cond}
 use mathlib.Core.List.{List·Memᴰ}
@@ -107,7 +109,6 @@ module _ (F : Formula) (p K : ℕ) (positive : Positive F)
       let e = side-mul F side 0 (λ r k. 0) 0 L in
       e ∙ zero-mul (sideSum F side (λ r k. 0) 0 L)
 
-  -- (ii)
   pub rest-below : RestBelowUnit F p K
   unfolding RestBelowUnit
   rest-below D count d whole side =

@@ -1,4 +1,5 @@
 -- One term: its size is the rest of its exact value rounded down, and D times the exact value lies within one unit.
+-- Assumes nothing.
 use mathlib.Core.Path.{_≡_, refl, sym, ap, ap₂, _∙_, subst}
 use mathlib.Core.Bool.{Bool, true, false, cond}
 use Prim.Native.Nat.{ℕ, zero, suc, _+_, _*_, _-_, _/_, _%_, _^_, _≤_, _<_}
@@ -28,7 +29,7 @@ below n a b p h =
     let m = mul-le-mul-right {m = 1} {n = n} (2 ^ b) p in
     div-eq-of-lt (omega (arith, l, m))
 
--- (i) the size is the exact term rounded down, modulo 2 ^ 128
+-- the size is the exact term rounded down, modulo 2 ^ 128
 pub size-floor : (F : Formula) (p : ℕ) (r : Row) (k : ℕ) → 0 < divisor r k → size F p r k ≡ floorOf F p r k % modulus
 unfolding size
 size-floor F p r k pos = go (leb (fall F k) (rise p r)) refl

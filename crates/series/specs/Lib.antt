@@ -1,2 +1,3 @@
 pub mod Series
 pub mod Bellard
+pub mod Names

@@ -1,0 +1,45 @@
+-- Closing a ledger: the refusals, the answer, and what the call leaves in the 32 bytes lent for the digits. Document 01, "Closing".
+use mathlib.Core.Bool.{not, cond, _||_}
+use mathlib.Core.List.{List, [], _∷_, _++_}
+use Prim.Native.Nat.{ℕ}
+use lib.Dec.{eqb}
+use lib.IntN.{ℤ}
+use lib.ListN.{length, drop}
+use Rattle.algebra.specs.Whole.{quotient}
+use Rattle.algebra.specs.Test.{allBelow}
+use Rattle.series.specs.Series.{Formula, rowCount, termCount}
+use Rattle.interval.specs.Interval.{low, high, unitAt}
+use Rattle.interval.specs.Digits.{settled, lowDigits}
+use Rattle.ticket.specs.Refusal.{Test, _⇐_, refusal, answer}
+use Rattle.ticket.specs.Run.{limitsOf}
+use Rattle.ledger.specs.Ledger.{posIn, blocksIn, totalIn, markIn, inOrder, ledgerSize}
+
+-- low and high of a run at position p with a total
+abbrev pub lowOf : Formula → ℕ → ℕ → ℤ
+lowOf F p total = low F p (termCount F p) total
+
+abbrev pub highOf : Formula → ℕ → ℕ → ℤ
+highOf F p total = high F p (termCount F p) total
+
+-- d, or 0 where there is none
+unfoldable pub settledAt : Formula → ℕ → ℕ → ℕ
+settledAt F p total = settled (lowOf F p total) (highOf F p total)
+
+-- the digits: the lowest d of the quotient
+unfoldable pub digitsAt : Formula → ℕ → ℕ → ℕ → List ℕ
+digitsAt F p total d = lowDigits d (quotient (lowOf F p total) (unitAt d))
+
+unfoldable pub closeRefusal : Formula → List ℕ → List ℕ → ℕ
+closeRefusal F s digits =
+    refusal
+    ((1 ⇐ not (eqb (length s) (ledgerSize (limitsOf F))) || not (eqb (length digits) 32)) ∷ (5 ⇐ not (inOrder (limitsOf F) s))
+    ∷ (8 ⇐ not (allBelow (rowCount F) (λ row. allBelow (blocksIn s) (λ block. markIn (limitsOf F) s row block))))
+    ∷ (9 ⇐ eqb (settledAt F (posIn s) (totalIn s)) 0) ∷ [])
+
+unfoldable pub closeAnswer : Formula → List ℕ → List ℕ → ℤ
+closeAnswer F s digits = answer (closeRefusal F s digits) (settledAt F (posIn s) (totalIn s))
+
+unfoldable pub closeBytes : Formula → List ℕ → List ℕ → List ℕ
+closeBytes F s digits =
+    let d = settledAt F (posIn s) (totalIn s) in
+    cond (eqb (closeRefusal F s digits) 0) (digitsAt F (posIn s) (totalIn s) d ++ drop d digits) digits

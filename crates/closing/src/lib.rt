@@ -1,0 +1,1 @@
+// Closing: definitions and laws. No code.

@@ -1,0 +1,110 @@
+-- The number of settled digits is the greatest that settles; fewer digits are settled too.
+-- Assumes nothing.
+use mathlib.Core.Path.{_≡_, refl, sym, ap, _∙_, subst}
+use mathlib.Core.Bool.{Bool, true, false, cond}
+use mathlib.Core.Logic.{_⊎_, inl, inr, ⊎-elim}
+use Prim.Native.Nat.{ℕ, zero, suc, _+_, _*_, _-_, _/_, _^_, _<_, _≤_}
+use native.Mathlib.Nat.{div-div-eq-div-mul}
+use native.Mathlib.Omega.{arith}
+use borrow.Author.Tests.{eqb-true, eq-eqb}
+use lib.IntN.{ℤ, pos, negsuc}
+use lib.Pow.{pow-add}
+use Rattle.algebra.specs.Whole.{quotient, sameℤ}
+use Rattle.algebra.proofs.Booleans.{below-or}
+use Rattle.series.specs.Series.{modulus}
+use Rattle.interval.specs.Interval.{Settles, unitAt}
+use Rattle.interval.specs.Digits.{settledUpTo, settled}
+use Rattle.interval.proofs.Tail.{pow-step}
+
+same-eq : (a b : ℤ) → sameℤ a b ≡ true → a ≡ b
+unfolding sameℤ
+same-eq (pos a) (pos b) e = ap pos (eqb-true a b e)
+same-eq (pos a) (negsuc b) e = cc
+same-eq (negsuc a) (pos b) e = cc
+same-eq (negsuc a) (negsuc b) e = ap negsuc (eqb-true a b e)
+
+eq-same : (a b : ℤ) → a ≡ b → sameℤ a b ≡ true
+unfolding sameℤ
+eq-same a b e = subst (λ (z : ℤ). sameℤ a z ≡ true) e (self a)
+  where
+    self : (a : ℤ) → sameℤ a a ≡ true
+    self (pos a) = eq-eqb a a refl
+    self (negsuc a) = eq-eqb a a refl
+
+module _ (lo hi : ℤ) where
+  Same : ℕ → Type 0
+  Same d = quotient lo (unitAt d) ≡ quotient hi (unitAt d)
+
+  -- what is found settles
+  found : (n : ℕ) → n ≤ 32 → (settledUpTo lo hi n ≡ 0) ⊎ Settles lo hi (settledUpTo lo hi n)
+  unfolding settledUpTo Settles
+  found zero h = inl refl
+  found (suc n) h = go (sameℤ (quotient lo (unitAt (suc n))) (quotient hi (unitAt (suc n)))) refl (found n (omega arith))
+    where
+      go : (b : Bool) → sameℤ (quotient lo (unitAt (suc n))) (quotient hi (unitAt (suc n))) ≡ b
+          → ((settledUpTo lo hi n ≡ 0) ⊎ Settles lo hi (settledUpTo lo hi n))
+          → (cond b (suc n) (settledUpTo lo hi n) ≡ 0) ⊎ Settles lo hi (cond b (suc n) (settledUpTo lo hi n))
+      go true e r = inr (omega arith, h, same-eq _ _ e)
+      go false e r = r
+
+  -- and nothing above it does
+  reaches : (n e : ℕ) → 1 ≤ e → e ≤ n → Same e → e ≤ settledUpTo lo hi n
+  unfolding settledUpTo Same
+  reaches zero e h l s = l
+  reaches (suc n) e h l s =
+      ⊎-elim (λ k. lower k (reaches n e h (omega arith) s)) (λ k. top k) (below-or e (suc n) (omega arith))
+    where
+      lower : e < suc n → e ≤ settledUpTo lo hi n
+          → e ≤ cond (sameℤ (quotient lo (unitAt (suc n))) (quotient hi (unitAt (suc n)))) (suc n) (settledUpTo lo hi n)
+      lower k r = go (sameℤ (quotient lo (unitAt (suc n))) (quotient hi (unitAt (suc n))))
+        where
+          go : (b : Bool) → e ≤ cond b (suc n) (settledUpTo lo hi n)
+          go true = l
+          go false = r
+
+      top : e ≡ suc n
+          → e ≤ cond (sameℤ (quotient lo (unitAt (suc n))) (quotient hi (unitAt (suc n)))) (suc n) (settledUpTo lo hi n)
+      top k = rw (eq-same _ _ (subst (λ (d : ℕ). quotient lo (unitAt d) ≡ quotient hi (unitAt d)) k s)) (omega arith)
+
+  pub greatest : (d : ℕ) → Settles lo hi d → ((e : ℕ) → Settles lo hi e → e ≤ d) → settled lo hi ≡ d
+  unfolding settled Settles Same
+  greatest d s above =
+      let l = reaches 32 d (s .0) (s .1) (s .2) in
+      ⊎-elim (λ z. absurd (let h = s .0 in omega (arith, z, l, h))) (λ r. let u = above _ r in omega (arith, l, u)) (found 32 (omega arith))
+
+  pub settled-none : settled lo hi ≡ 0 → (d : ℕ) → Settles lo hi d → ⊥
+  unfolding settled Settles Same
+  settled-none z d s = let l = reaches 32 d (s .0) (s .1) (s .2) in let h = s .0 in omega (arith, z, l, h)
+
+  pub none-settled : ((d : ℕ) → Settles lo hi d → ⊥) → settled lo hi ≡ 0
+  unfolding settled
+  none-settled n = ⊎-elim (λ z. z) (λ r. absurd (n _ r)) (found 32 (omega arith))
+
+-- ---- sharing at d gives sharing at every smaller d
+
+-- a quotient of a quotient, both rounded down
+twice : (z : ℤ) (v w : ℕ) → quotient (quotient z v) w ≡ quotient z (v * w)
+twice (pos n) v w = ap pos (div-div-eq-div-mul n v w)
+twice (negsuc n) v w = ap negsuc (div-div-eq-div-mul n v w)
+
+coarser : (e d : ℕ) → e ≤ d → d ≤ 32 → unitAt d * 2 ^ (4 * (d - e)) ≡ unitAt e
+coarser e d h l =
+    let q : 128 - 4 * d + 4 * (d - e) ≡ 128 - 4 * e = omega arith in
+    sym (pow-add 2 (128 - 4 * d) (4 * (d - e))) ∙ ap (λ (n : ℕ). 2 ^ n) q
+
+pub fewer : (lo hi : ℤ) (d e : ℕ) → Settles lo hi d → 1 ≤ e → e ≤ d → Settles lo hi e
+unfolding Settles
+fewer lo hi d e s o h =
+    let l = s .1 in (
+      o,
+      omega arith,
+      subst (λ (u : ℕ). quotient lo u ≡ quotient hi u) (coarser e d h l)
+          (sym (twice lo (unitAt d) (2 ^ (4 * (d - e)))) ∙ ap (λ (z : ℤ). quotient z (2 ^ (4 * (d - e)))) (s .2)
+          ∙ twice hi (unitAt d) (2 ^ (4 * (d - e)))),
+    )
+
+-- 2 ^ 128 is 16 ^ d times 2 ^ (128 - 4 d)
+pub split-modulus : (d : ℕ) → d ≤ 32 → modulus ≡ 16 ^ d * unitAt d
+split-modulus d h =
+    let e : 128 ≡ 4 * d + (128 - 4 * d) = omega arith in
+    ap (λ (n : ℕ). 2 ^ n) e ∙ pow-add 2 (4 * d) (128 - 4 * d) ∙ ap (λ (n : ℕ). n * unitAt d) (pow-step 4 d)

@@ -1,0 +1,61 @@
+-- The plain ledger: a run, a set of tickets and a total. It has no byte of the ledger in it. Document 01, "The ledger".
+use mathlib.Core.Bool.{Bool, true, false, cond, _&&_, _||_}
+use mathlib.Core.List.{List, [], _∷_, _++_}
+use Prim.Native.Nat.{ℕ, zero, suc, _+_, _*_, _%_, _^_}
+use lib.Dec.{eqb}
+use Rattle.words.specs.Bytes.{bytesOf}
+use Rattle.series.specs.Series.{modulus}
+use Rattle.ticket.specs.Run.{Limits}
+use Rattle.ledger.specs.Ledger.{View, head}
+
+-- A ticket of a run, with the sum that is offered for it.
+pub record Entry : Type 0 where
+  pub row : ℕ
+  pub block : ℕ
+  pub sum : ℕ
+
+-- The set of tickets is given by its test: `tickets row block` says whether the ticket is in it.
+pub record Plain : Type 0 where
+  pub p : ℕ
+  pub C : ℕ
+  pub tickets : ℕ → ℕ → Bool
+  pub total : ℕ
+
+-- the run named, the empty set and total 0
+unfoldable pub opened : ℕ → ℕ → Plain
+opened p C = record { p = p; C = C; tickets = λ row block. false; total = 0 }
+
+-- for the plain ledger the ledger has its size and is in order, and a ticket is marked if it is in the set
+unfoldable pub plainView : Plain → View
+plainView s = record { sized = true; ordered = true; p = s .p; C = s .C; marked = s .tickets }
+
+abbrev pub isOf : Entry → ℕ → ℕ → Bool
+isOf t row block = eqb (t .row) row && eqb (t .block) block
+
+-- the set with one ticket more
+unfoldable pub including : Entry → (ℕ → ℕ → Bool) → ℕ → ℕ → Bool
+including t set row block = isOf t row block || set row block
+
+-- a ticket put into the set, and its sum added modulo 2 ^ 128
+unfoldable pub admit : Plain → Entry → Plain
+admit s t = record { p = s .p; C = s .C; tickets = including t (s .tickets); total = (s .total + t .sum) % modulus }
+
+-- ---- the bytes that hold exactly what a plain ledger holds
+
+-- the lowest n bits of a byte of marks: bit i is the mark of block `from + i`
+unfoldable pub markByte : (ℕ → Bool) → ℕ → ℕ → ℕ
+markByte m from zero = 0
+markByte m from (suc n) = markByte m from n + cond (m (from + n)) (2 ^ n) 0
+
+-- n bytes of marks from byte i on
+unfoldable pub markBytes : (ℕ → Bool) → ℕ → ℕ → List ℕ
+markBytes m i zero = []
+markBytes m i (suc n) = markByte m (8 * i) 8 ∷ markBytes m (suc i) n
+
+-- 32 bytes of marks for each of n rows from row r on
+unfoldable pub markRows : (ℕ → ℕ → Bool) → ℕ → ℕ → List ℕ
+markRows m r zero = []
+markRows m r (suc n) = markBytes (m r) 0 32 ++ markRows m (suc r) n
+
+unfoldable pub encode : Limits → Plain → List ℕ
+encode lim s = head (s .p) (s .C) ++ bytesOf 16 (s .total) ++ markRows (s .tickets) 0 (lim .rows)

@@ -1,0 +1,1 @@
+// The ledger: its bytes, opening it and posting a ticket.

@@ -1,0 +1,73 @@
+-- Demand 3: what every list of posts on a ledger that starts fresh gives, and the closing after it. One statement, about the list
+-- at any length, over the definitions that the calls' contracts cite.
+use mathlib.Core.Path.{_≡_}
+use mathlib.Core.Bool.{true}
+use mathlib.Core.List.{List, _++_, List·Memᴰ}
+use Prim.Native.Nat.{ℕ, _*_, _%_, _≤_, _<_}
+use lib.IntN.{ℤ, pos, negℤ}
+use lib.ListN.{length, drop}
+use Rattle.algebra.specs.Sum.{sum}
+use Rattle.algebra.specs.Whole.{quotient}
+use Rattle.series.specs.Series.{Formula, rowCount, termCount, modulus}
+use Rattle.series.specs.Bellard.{bellard}
+use Rattle.interval.specs.Exact.{MakesWhole, exactSum}
+use Rattle.interval.specs.Interval.{LiesFrom, unitAt, Settles}
+use Rattle.interval.specs.Digits.{lowDigits}
+use Rattle.ticket.specs.Run.{limitsOf, inRange, isTicket, ticketSum}
+use Rattle.ledger.specs.Ledger.{fresh, ledgerSize}
+use Rattle.ledger.specs.Plain.{Entry, opened, encode}
+use Rattle.ledger.specs.Calls.{openAnswer, openBytes}
+use Rattle.sheet.specs.Posts.{Post, postsBytes, postsAnswers, plainPosts, plainAnswers, occurrences, contains}
+use Rattle.closing.specs.Closing.{lowOf, highOf, closeAnswer, closeBytes}
+
+-- Each ticket of the run occurs in the list, and carries its right sum wherever it occurs.
+pub record Filled (F : Formula) (p C : ℕ) (posts : List Post) : Type 0 where
+  pub occurs : (row block : ℕ) → isTicket (limitsOf F) C row block ≡ true
+      → contains (occurrences (limitsOf F) (opened p C) posts) row block ≡ true
+  pub right : (t : Entry) → List·Memᴰ t (occurrences (limitsOf F) (opened p C) posts)
+      → isTicket (limitsOf F) C (t .row) (t .block) ≡ true → t .sum ≡ ticketSum F p C (t .row) (t .block)
+
+-- the sums of all tickets of the run, one for each, added modulo 2 ^ 128
+unfoldable pub allSums : Formula → ℕ → ℕ → ℕ
+allSums F p C = sum (λ row. sum (λ block. ticketSum F p C row block) 0 C) 0 (rowCount F) % modulus
+
+-- the total after the list of posts
+abbrev pub finalTotal : Formula → ℕ → ℕ → List Post → ℕ
+finalTotal F p C posts = plainPosts (limitsOf F) (opened p C) posts .total
+
+-- What a closing of the ledger s into 32 bytes gives, where the exact sum lies from lo to hi.
+pub record Closed (F : Formula) (p : ℕ) (lo hi : ℤ) (s out : List ℕ) : Type 0 where
+  -- refusal 9 exactly where the distance settles no digit, and then the bytes stay
+  pub refused : ((d : ℕ) → Settles lo hi d → ⊥) → (closeAnswer F s out ≡ negℤ (pos 9)) × (closeBytes F s out ≡ out)
+  pub only-then : closeAnswer F s out ≡ negℤ (pos 9) → (d : ℕ) → Settles lo hi d → ⊥
+  -- else the answer is the greatest d that it settles, and the first d bytes are the lowest d digits of X / (D * 2 ^ (128 - 4 d)),
+  -- for every exact sum X from length K on
+  pub settled : (d : ℕ) → Settles lo hi d → ((e : ℕ) → Settles lo hi e → e ≤ d)
+      → (closeAnswer F s out ≡ pos d)
+      × ((D L : ℕ) → 0 < D → termCount F p ≤ L → MakesWhole F p L D
+      → closeBytes F s out ≡ lowDigits d (quotient (exactSum F p D L) (D * unitAt d)) ++ drop d out)
+
+pub record Settled (F : Formula) (p C : ℕ) (posts : List Post) : Type 0 where
+  -- opening any bytes of the ledger's size answers 0 and leaves a fresh ledger
+  pub opens : (s : List ℕ) → length s ≡ ledgerSize (limitsOf F)
+      → (openAnswer (limitsOf F) p C s ≡ pos 0) × (openBytes (limitsOf F) p C s ≡ fresh (limitsOf F) p C)
+  -- the posts answer, and leave the ledger, as the plain ledger does
+  pub answers : postsAnswers (limitsOf F) (fresh (limitsOf F) p C) posts ≡ plainAnswers (limitsOf F) (opened p C) posts
+  pub ledger : postsBytes (limitsOf F) (fresh (limitsOf F) p C) posts ≡ encode (limitsOf F) (plainPosts (limitsOf F) (opened p C) posts)
+  -- a filled run's total is the sum of all tickets, one for each
+  pub total : Filled F p C posts → finalTotal F p C posts ≡ allSums F p C
+  -- every exact partial sum from K on lies from total - (b + 1) to total + (a + 1) modulo 2 ^ 128
+  pub near : Filled F p C posts → (D L : ℕ) → 0 < D → termCount F p ≤ L → MakesWhole F p L D
+      → LiesFrom D (lowOf F p (finalTotal F p C posts)) (highOf F p (finalTotal F p C posts)) (exactSum F p D L)
+  -- and the closing of the ledger that the list left gives its digits
+  pub closing : Filled F p C posts → (out : List ℕ) → length out ≡ 32
+      → Closed F p (lowOf F p (finalTotal F p C posts)) (highOf F p (finalTotal F p C posts))
+      (postsBytes (limitsOf F) (fresh (limitsOf F) p C) posts) out
+
+-- every run of a formula, every list of posts
+abbrev pub Demand : Formula → Type 0
+Demand F = (p C : ℕ) → inRange (limitsOf F) p C ≡ true → (posts : List Post) → Settled F p C posts
+
+-- Demand 3
+abbrev pub Demand3 : Type 0
+Demand3 = Demand bellard

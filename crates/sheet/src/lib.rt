@@ -1,0 +1,1 @@
+// Sheets: writing, reading and posting them.

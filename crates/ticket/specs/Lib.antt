@@ -1,0 +1,4 @@
+pub mod Refusal
+pub mod Run
+pub mod Work
+pub mod Answers

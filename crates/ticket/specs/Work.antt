@@ -1,0 +1,23 @@
+-- Working a ticket: what the call answers, and what it leaves in the bytes lent for the sum.
+use mathlib.Core.Bool.{not, cond}
+use mathlib.Core.List.{List, [], _∷_}
+use Prim.Native.Nat.{ℕ}
+use lib.Dec.{eqb}
+use lib.IntN.{ℤ}
+use lib.ListN.{length}
+use Rattle.words.specs.Bytes.{bytesOf}
+use Rattle.series.specs.Series.{Formula}
+use Rattle.ticket.specs.Refusal.{Test, _⇐_, refusal, answer}
+use Rattle.ticket.specs.Run.{limitsOf, inRange, isTicket, ticketSum}
+
+unfoldable pub workRefusal : Formula → ℕ → ℕ → ℕ → ℕ → List ℕ → ℕ
+workRefusal F p C row block out =
+    refusal
+    ((1 ⇐ not (eqb (length out) 16)) ∷ (2 ⇐ not (inRange (limitsOf F) p C))
+    ∷ (4 ⇐ not (isTicket (limitsOf F) C row block)) ∷ [])
+
+unfoldable pub workAnswer : Formula → ℕ → ℕ → ℕ → ℕ → List ℕ → ℤ
+workAnswer F p C row block out = answer (workRefusal F p C row block out) 0
+
+unfoldable pub workBytes : Formula → ℕ → ℕ → ℕ → ℕ → List ℕ → List ℕ
+workBytes F p C row block out = cond (eqb (workRefusal F p C row block out) 0) (bytesOf 16 (ticketSum F p C row block)) out
