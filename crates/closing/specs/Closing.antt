@@ -10,8 +10,8 @@ use Rattle.algebra.specs.Test.{allBelow}
 use Rattle.series.specs.Series.{Formula, rowCount, termCount}
 use Rattle.interval.specs.Interval.{low, high, unitAt}
 use Rattle.interval.specs.Digits.{settled, lowDigits}
-use Rattle.ticket.specs.Refusal.{Test, _⇐_, refusal, answer}
-use Rattle.ticket.specs.Run.{limitsOf}
+use Rattle.run.specs.Refusal.{Test, _⇐_, refusal, answer}
+use Rattle.run.specs.Run.{limitsOf}
 use Rattle.ledger.specs.Ledger.{posIn, blocksIn, totalIn, markIn, inOrder, ledgerSize}
 
 -- low and high of a run at position p with a total

@@ -6,8 +6,8 @@ use lib.Dec.{eqb}
 use lib.IntN.{ℤ}
 use lib.ListN.{length}
 use Rattle.words.specs.Bytes.{valueOf}
-use Rattle.ticket.specs.Refusal.{Test, _⇐_, refusal, answer}
-use Rattle.ticket.specs.Run.{Limits, inRange, isTicket}
+use Rattle.run.specs.Refusal.{Test, _⇐_, refusal, answer}
+use Rattle.run.specs.Run.{Limits, inRange, isTicket}
 use Rattle.ledger.specs.Ledger.{View, viewOf, ledgerSize, fresh, enter}
 
 -- ---- opening

@@ -7,7 +7,7 @@ use lib.ListN.{length, getD, take, drop, set, replicate}
 use Rattle.algebra.specs.Test.{allBelow}
 use Rattle.words.specs.Bytes.{bytesOf, field}
 use Rattle.series.specs.Series.{modulus}
-use Rattle.ticket.specs.Run.{Limits, inRange, isTicket}
+use Rattle.run.specs.Run.{Limits, inRange, isTicket}
 
 -- What the refusal table asks of a ledger: whether it has its size and is in order, its run, and which tickets are marked.
 pub record View : Type 0 where

@@ -5,7 +5,7 @@ use Prim.Native.Nat.{ℕ, zero, suc, _+_, _*_, _%_, _^_}
 use lib.Dec.{eqb}
 use Rattle.words.specs.Bytes.{bytesOf}
 use Rattle.series.specs.Series.{modulus}
-use Rattle.ticket.specs.Run.{Limits}
+use Rattle.run.specs.Run.{Limits}
 use Rattle.ledger.specs.Ledger.{View, head}
 
 -- A ticket of a run, with the sum that is offered for it.

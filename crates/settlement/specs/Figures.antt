@@ -7,7 +7,7 @@ use lib.IntN.{ℤ, pos, negℤ}
 use lib.ListN.{replicate}
 use Rattle.series.specs.Series.{rowAt, size, isAdded, termCount}
 use Rattle.series.specs.Bellard.{bellard}
-use Rattle.ticket.specs.Run.{limitsOf}
+use Rattle.run.specs.Run.{limitsOf}
 use Rattle.ledger.specs.Plain.{Plain, encode}
 use Rattle.closing.specs.Closing.{closeAnswer, closeBytes}
 use lib.Dec.{ltb, eqb}

@@ -13,7 +13,7 @@ use Rattle.series.specs.Bellard.{bellard}
 use Rattle.interval.specs.Exact.{MakesWhole, exactSum}
 use Rattle.interval.specs.Interval.{LiesFrom, unitAt, Settles}
 use Rattle.interval.specs.Digits.{lowDigits}
-use Rattle.ticket.specs.Run.{limitsOf, inRange, isTicket, ticketSum}
+use Rattle.run.specs.Run.{limitsOf, inRange, isTicket, ticketSum}
 use Rattle.ledger.specs.Ledger.{fresh, ledgerSize}
 use Rattle.ledger.specs.Plain.{Entry, opened, encode}
 use Rattle.ledger.specs.Calls.{openAnswer, openBytes}

@@ -7,8 +7,8 @@ use lib.IntN.{ℤ}
 use lib.ListN.{length, drop}
 use Rattle.words.specs.Bytes.{bytesOf}
 use Rattle.series.specs.Series.{Formula}
-use Rattle.ticket.specs.Refusal.{Test, _⇐_, refusal, answer}
-use Rattle.ticket.specs.Run.{Limits, limitsOf, inRange}
+use Rattle.run.specs.Refusal.{Test, _⇐_, refusal, answer}
+use Rattle.run.specs.Run.{Limits, limitsOf, inRange}
 use Rattle.ledger.specs.Ledger.{View, viewOf, enter}
 use Rattle.ledger.specs.Plain.{Entry}
 use Rattle.sheet.specs.Sheet.{sheetLength, sheetMost, listMost, sheetPos, sheetBlocks, sheetCount, entries, every, allTickets, ascending, wellFormed, bodiesOf, sheetOf, listOf, listed}

@@ -7,8 +7,8 @@ use lib.Dec.{eqb}
 use lib.IntN.{ℤ}
 use lib.ListN.{length}
 use Rattle.words.specs.Bytes.{valueOf}
-use Rattle.ticket.specs.Refusal.{answer}
-use Rattle.ticket.specs.Run.{Limits}
+use Rattle.run.specs.Refusal.{answer}
+use Rattle.run.specs.Run.{Limits}
 use Rattle.ledger.specs.Ledger.{View}
 use Rattle.ledger.specs.Plain.{Entry, Plain, plainView, admit, isOf}
 use Rattle.ledger.specs.Calls.{ticketRefusal, ticketAnswer, ticketBytes}

@@ -7,7 +7,7 @@ use lib.ListN.{length, getD}
 use Rattle.algebra.specs.Test.{allBelow}
 use Rattle.words.specs.Bytes.{bytesOf, field}
 use Rattle.series.specs.Series.{Formula}
-use Rattle.ticket.specs.Run.{Limits, isTicket, ticketSum}
+use Rattle.run.specs.Run.{Limits, isTicket, ticketSum}
 use Rattle.ledger.specs.Plain.{Entry}
 
 -- ---- sizes: 16 bytes and 20 for each ticket, of which a run has 256 in each row at the most

@@ -1,4 +1,1 @@
-pub mod Refusal
-pub mod Run
 pub mod Work
-pub mod Answers

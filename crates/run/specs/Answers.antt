@@ -1,10 +1,10 @@
 -- What each case of a call's answer stands for: the number of the refusal table, negated for C, or the call's value.
 use Prim.Native.Nat.{ℕ}
 use lib.IntN.{ℤ, pos, negℤ}
-use Rattle.ticket.specs.declared.Refusal.{Refusal}
-use Rattle.ticket.specs.declared.Refusal.the-variants.{WrongSize, OutOfRange, Malformed, NoTicket, OutOfOrder, OtherRun, Marked, Unmarked, Unsettled}
-use Rattle.ticket.specs.declared.Answer.{Answer}
-use Rattle.ticket.specs.declared.Answer.the-variants.{Finished, Refused}
+use Rattle.run.specs.declared.Refusal.{Refusal}
+use Rattle.run.specs.declared.Refusal.the-variants.{WrongSize, OutOfRange, Malformed, NoTicket, OutOfOrder, OtherRun, Marked, Unmarked, Unsettled}
+use Rattle.run.specs.declared.Answer.{Answer}
+use Rattle.run.specs.declared.Answer.the-variants.{Finished, Refused}
 
 abbrev pub numberOf : Refusal → ℕ
 numberOf WrongSize = 1
