@@ -4,7 +4,7 @@ use mathlib.Core.Path.{_≡_, refl, sym, ap, ap₂, _∙_}
 use mathlib.Core.Bool.{Bool, true, false}
 use mathlib.Core.List.{List, [], _∷_, _++_, append-nil, append-assoc}
 use Prim.Native.Nat.{ℕ, zero, suc, _+_, _*_, _-_, _/_, _%_, _^_, _<_, _≤_}
-use native.Mathlib.Nat.{div-div-eq-div-mul, div-one, le-of-suc-le-suc, not-suc-le-zero, pow-zero, pow-succ', zero-add}
+use native.Mathlib.Nat.{div-div-eq-div-mul, div-one, le-of-suc-le-suc, not-suc-le-zero, pow-zero, pow-succ', zero-add, add-mul-div-left, div-eq-of-lt}
 use native.Mathlib.Numerals.{add-one}
 use native.Mathlib.Omega.{arith}
 use borrow.Author.Tests.{ltb-true, ltb-false}
@@ -37,6 +37,22 @@ bytes-add (suc v) w x =
     ap (λ (n : ℕ). bytesOf n x) e
     ∙ ap (λ (l : List ℕ). x % 256 ∷ l)
     (bytes-add v w (x / 256) ∙ ap (λ (n : ℕ). bytesOf v (x / 256) ++ bytesOf w n) (div-div-eq-div-mul x 256 (256 ^ v) ∙ ap (λ (n : ℕ). x / n) (sym (pow-succ' 256 v))))
+
+-- what is above w bytes is not among them
+pub bytes-low : (w x y : ℕ) → bytesOf w (x + 256 ^ w * y) ≡ bytesOf w x
+unfolding bytesOf
+bytes-low zero x y = refl
+bytes-low (suc w) x y =
+    let p : 256 ^ suc w * y ≡ 256 * (256 ^ w * y) = omega (arith, ap (λ (n : ℕ). n * y) (pow-succ' 256 w)) in
+    let e : (x + 256 ^ suc w * y) % 256 ≡ x % 256 = omega arith in
+    let f : (x + 256 ^ suc w * y) / 256 ≡ x / 256 + 256 ^ w * y = omega arith in
+    ap₂ (λ (n : ℕ) (l : List ℕ). n ∷ l) e (ap (bytesOf w) f ∙ bytes-low w (x / 256) y)
+
+-- two numbers, one above the other
+pub bytes-join : (v w x y : ℕ) → x < 256 ^ v → bytesOf (v + w) (x + 256 ^ v * y) ≡ bytesOf v x ++ bytesOf w y
+bytes-join v w x y h =
+    bytes-add v w (x + 256 ^ v * y)
+    ∙ ap₂ (λ (l : List ℕ) (n : ℕ). l ++ bytesOf w n) (bytes-low v x y) (add-mul-div-left x y {y = 256 ^ v} (omega arith) ∙ ap (λ (n : ℕ). n + y) (div-eq-of-lt h) ∙ zero-add y)
 
 -- ---- the number of the bytes
 
@@ -123,6 +139,10 @@ field-written a b at w x h l =
     ∙ value-bytes w x l
 
 -- ---- loops
+
+pub field-none : (s : List ℕ) (at : ℕ) → field s at 0 ≡ 0
+unfolding field valueOf
+field-none s at = refl
 
 -- one byte more below: a reading loop goes down from the top
 pub field-next : (s : List ℕ) (at w : ℕ) → at < length s → field s at (w + 1) ≡ getD s at 0 + 256 * field s (at + 1) w
