@@ -115,7 +115,7 @@ unfolding refusal
 pass n true ts e = absurd (omega (arith, e))
 pass n false ts e = (refl, e)
 
-formed : (b : List ℕ) → wellFormed b ≡ true → ascending (entries b) ≡ true
+pub formed : (b : List ℕ) → wellFormed b ≡ true → ascending (entries b) ≡ true
 unfolding wellFormed
 formed b h = and-right
     (eqb (length b) (sheetLength (sheetCount b)) && eqb (field b 12 4) 0 && allBelow (sheetCount b) (λ i. eqb (getD b (17 + 4 * i) 0) 0)) (ascending (entries b)) h
