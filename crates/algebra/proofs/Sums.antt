@@ -66,3 +66,11 @@ sum-bump g g′ (suc c) j x h e o = ⊎-elim
     (λ d. let a = sum-ext g g′ 0 c (λ i l u. o i (λ q. omega (arith, q))) in
     let b = subst (λ (n : ℕ). g′ n ≡ g n + x) (d ∙ sym (zero-add c)) e in omega (arith, a, b))
     (below-or j c h)
+
+-- a sum from 1 on is one from 0 on of what stands one further
+pub sum-shift : (g h : ℕ → ℕ) (count : ℕ) → ((n : ℕ) → g (suc n) ≡ h n) → sum g 1 count ≡ sum h 0 count
+unfolding sum
+sum-shift g h zero e = refl
+sum-shift g h (suc c) e =
+    let q : 1 + c ≡ suc c = omega arith in
+    ap₂ _+_ (sum-shift g h c e) (ap g q ∙ e c ∙ ap h (sym (zero-add c)))

@@ -72,9 +72,13 @@ module _ (lo hi : ℤ) where
       let l = reaches 32 d (s .0) (s .1) (s .2) in
       ⊎-elim (λ z. absurd (let h = s .0 in omega (arith, z, l, h))) (λ r. let u = above _ r in omega (arith, l, u)) (found 32 (omega arith))
 
-  pub settled-none : settled lo hi ≡ 0 → (d : ℕ) → Settles lo hi d → ⊥
+  pub at-most : (d : ℕ) → Settles lo hi d → d ≤ settled lo hi
   unfolding settled Settles Same
-  settled-none z d s = let l = reaches 32 d (s .0) (s .1) (s .2) in let h = s .0 in omega (arith, z, l, h)
+  at-most d s = reaches 32 d (s .0) (s .1) (s .2)
+
+  pub settled-none : settled lo hi ≡ 0 → (d : ℕ) → Settles lo hi d → ⊥
+  unfolding Settles
+  settled-none z d s = let l = at-most d s in let h = s .0 in omega (arith, z, l, h)
 
   pub none-settled : ((d : ℕ) → Settles lo hi d → ⊥) → settled lo hi ≡ 0
   unfolding settled

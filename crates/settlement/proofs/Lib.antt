@@ -1,0 +1,6 @@
+pub mod Partition
+pub mod Filling
+pub mod Filler
+pub mod Theorem
+pub mod Figures
+pub mod FirstDigits

@@ -47,3 +47,9 @@ figures =
     ∷ countAt 3 14 ∷ countAt 4 15 ∷ countAt (2 ^ 60) 461168601842738804
     ∷ closingOf 49 (negℤ (pos 9)) (replicate 32 0) ∷ closingOf 50 (pos 30) (replicate 30 48 ++ 0 ∷ 0 ∷ [])
     ∷ closingOf (2 ^ 128 - 51) (pos 30) (replicate 30 70 ++ 0 ∷ 0 ∷ []) ∷ closingOf (2 ^ 128 - 50) (negℤ (pos 9)) (replicate 32 0) ∷ []
+
+-- 243F6A8885A308D313198A2E037073, the first thirty hexadecimal digits of pi after the point
+abbrev pub firstDigits : List ℕ
+firstDigits =
+    50 ∷ 52 ∷ 51 ∷ 70 ∷ 54 ∷ 65 ∷ 56 ∷ 56 ∷ 56 ∷ 53 ∷ 65 ∷ 51 ∷ 48 ∷ 56 ∷ 68 ∷ 51 ∷ 49 ∷ 51 ∷ 49 ∷ 57 ∷ 56 ∷ 65 ∷ 50 ∷ 69 ∷ 48 ∷ 51 ∷ 55 ∷ 48 ∷ 55
+    ∷ 51 ∷ []

@@ -1,0 +1,4 @@
+pub mod Simulation
+pub mod Many
+pub mod Sheets
+pub mod RoundTrip

@@ -11,7 +11,7 @@ use borrow.Author.Tests.{ltb-true, ltb-false}
 use lib.Dec.{ltb}
 use lib.ListN.{length, getD, set, take, drop, length-take, length-drop, drop-of-length-le, List·getD-eq-default}
 use lib.Seq.{paste, paste-suc, take-all, take-add, take-at, drop-at, drop-cons, drop-drop, getD-take, getD-drop}
-use Rattle.words.specs.Bytes.{bytesOf, valueOf, field}
+use Rattle.words.specs.Bytes.{bytesOf, valueOf, field, AllBytes}
 
 -- ---- the bytes of a number
 
@@ -69,10 +69,6 @@ unfolding valueOf
 value-append [] b = omega (arith, pow-zero 256)
 value-append (x ∷ a) b =
     omega (arith, value-append a b, ap (λ (n : ℕ). n * valueOf b) (pow-succ' 256 (length a)))
-
--- every element is a byte
-unfoldable pub AllBytes : List ℕ → Type 0
-AllBytes l = (i : ℕ) → getD l i 0 < 256
 
 pub value-lt : (l : List ℕ) → AllBytes l → valueOf l < 256 ^ length l
 unfolding valueOf AllBytes

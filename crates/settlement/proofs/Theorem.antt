@@ -1,0 +1,156 @@
+-- Demand 3, for any formula whose N are at least 1 and whose uncharged terms stay below a unit at every position; and for Bellard's.
+-- Assumes nothing.
+use mathlib.Core.Path.{_≡_, refl, sym, ap, _∙_, subst}
+use mathlib.Core.Bool.{Bool, true, false, cond}
+use mathlib.Core.List.{List, _++_}
+use Prim.Native.Nat.{ℕ, zero, suc, _*_, _^_, _<_, _≤_}
+use native.Mathlib.Omega.{arith}
+use borrow.Author.Tests.{eq-eqb, ne-eqb}
+use lib.Dec.{eqb}
+use lib.IntN.{ℤ, pos-ne-negsuc, pos, negℤ}
+use lib.ListN.{length, drop}
+use Rattle.algebra.specs.Whole.{quotient}
+use Rattle.algebra.proofs.Below.{all-true}
+use Rattle.series.specs.Series.{Formula, rowCount, termCount, sizesSum}
+use Rattle.series.specs.Bellard.{bellard}
+use Rattle.interval.specs.Exact.{MakesWhole, exactSum}
+use Rattle.interval.specs.Interval.{low, high, LiesFrom, Positive, RestBelowUnit, Settles, unitAt}
+use Rattle.interval.specs.Digits.{settled, lowDigits}
+use Rattle.interval.proofs.Settling.{lies-from, shared-digits}
+use Rattle.interval.proofs.Digits.{greatest, none-settled, settled-none}
+use Rattle.interval.proofs.Bellard.{positive, bellard-rest}
+use Rattle.run.specs.Refusal.{refusal, answer}
+use Rattle.run.specs.Run.{limitsOf, inRange}
+use Rattle.run.proofs.Range.{Range, range-of, is-ticket}
+use Rattle.ledger.specs.Ledger.{fresh, ledgerSize, posIn, totalIn, blocksIn, inOrder, markIn}
+use Rattle.ledger.specs.Plain.{Plain, opened, encode}
+use Rattle.ledger.specs.Calls.{openAnswer, openBytes, openRefusal}
+use Rattle.ledger.proofs.Image.{Good, pos-encode, blocks-encode, total-encode, order-encode, length-encode, mark-encode}
+use Rattle.sheet.specs.Posts.{Post, postsBytes, postsAnswers, plainPosts}
+use Rattle.sheet.proofs.Simulation.{good-opened, posts-good, ledger-is, answers-are}
+use Rattle.closing.specs.Closing.{lowOf, highOf, settledAt, digitsAt, closeRefusal, closeAnswer, closeBytes}
+use Rattle.settlement.specs.Settlement.{Filled, allSums, Closed, Settled, Demand, Demand3}
+use Rattle.settlement.proofs.Filling.{filled-all, filled-total, kept-posts, kept-opened}
+use Rattle.settlement.proofs.Partition.{all-tickets}
+
+module _ (F : Formula) (fits : F .last < 2 ^ 64) (above : Positive F) (rest : (p : ℕ) → RestBelowUnit F p (termCount F p))
+    (p C : ℕ) (range : inRange (limitsOf F) p C ≡ true) where
+  lo : ℤ
+  lo = lowOf F p (allSums F p C)
+
+  hi : ℤ
+  hi = highOf F p (allSums F p C)
+
+  sizes-are : sizesSum F p (termCount F p) ≡ allSums F p C
+  sizes-are = sym (all-tickets F p C (let r = range-of (limitsOf F) p C range in r .C-low))
+
+  all-near : (D L : ℕ) → 0 < D → termCount F p ≤ L → MakesWhole F p L D → LiesFrom D lo hi (exactSum F p D L)
+  unfolding lo hi
+  all-near D L d h whole =
+      subst (λ (t : ℕ). LiesFrom D (lowOf F p t) (highOf F p t) (exactSum F p D L)) sizes-are
+      (lies-from F p (termCount F p) above (rest p) D L d h whole)
+
+  -- a quotient that low and high share has the lowest digits of every exact sum
+  digits : (d : ℕ) → Settles lo hi d → (D L : ℕ) → 0 < D → termCount F p ≤ L → MakesWhole F p L D
+      → lowDigits d (quotient lo (unitAt d)) ≡ lowDigits d (quotient (exactSum F p D L) (D * unitAt d))
+  unfolding lo hi
+  digits d s D L dp h whole =
+      subst (λ (t : ℕ). Settles (lowOf F p t) (highOf F p t) d
+      → lowDigits d (quotient (lowOf F p t) (unitAt d)) ≡ lowDigits d (quotient (exactSum F p D L) (D * unitAt d))) sizes-are
+      (λ s. sym (shared-digits F p (termCount F p) above (rest p) d s D L dp h whole)) s
+
+  -- what a closing of a filled ledger answers and writes, by the number of digits settled
+  module _ (s : Plain) (good : Good (limitsOf F) s) (run-p : s .p ≡ p) (total-is : s .total ≡ allSums F p C)
+      (full : (row block : ℕ) → row < rowCount F → block < s .C → markIn (limitsOf F) (encode (limitsOf F) s) row block ≡ true)
+      (out : List ℕ) (room : length out ≡ 32) where
+    bytes : List ℕ
+    bytes = encode (limitsOf F) s
+
+    settled-is : settledAt F (posIn bytes) (totalIn bytes) ≡ settled lo hi
+    unfolding bytes settledAt lo hi
+    settled-is = rw (pos-encode (limitsOf F) s good, total-encode (limitsOf F) s good, run-p, total-is) refl
+
+    refusal-is : closeRefusal F bytes out ≡ cond (eqb (settled lo hi) 0) 9 0
+    unfolding closeRefusal refusal bytes
+    refusal-is =
+        rw (
+          eq-eqb (length (encode (limitsOf F) s)) (ledgerSize (limitsOf F)) (length-encode (limitsOf F) s good),
+          room,
+          order-encode (limitsOf F) s good,
+          blocks-encode (limitsOf F) s good,
+          all-true (rowCount F) _ (λ row h. all-true (s .C) _ (λ block l. full row block h l)),
+          settled-is,
+        ) refl
+
+    answer-is : closeAnswer F bytes out ≡ answer (cond (eqb (settled lo hi) 0) 9 0) (settled lo hi)
+    unfolding closeAnswer
+    answer-is = rw (refusal-is, settled-is) refl
+
+    bytes-are : closeBytes F bytes out
+        ≡ cond (eqb (cond (eqb (settled lo hi) 0) 9 0) 0) (lowDigits (settled lo hi) (quotient lo (unitAt (settled lo hi))) ++ drop (settled lo hi) out) out
+    unfolding closeBytes digitsAt bytes lo
+    bytes-are =
+        rw (refusal-is, settled-is, pos-encode (limitsOf F) s good, total-encode (limitsOf F) s good, run-p, total-is) refl
+
+    closed : Closed F p lo hi bytes out
+    unfolding answer Settles
+    closed = record {
+      refused = λ n.
+          let z = none-settled lo hi n in (
+            answer-is ∙ ap (λ (d : ℕ). answer (cond (eqb d 0) 9 0) d) z,
+            bytes-are ∙ ap (λ (d : ℕ). cond (eqb (cond (eqb d 0) 9 0) 0) (lowDigits d (quotient lo (unitAt d)) ++ drop d out) out) z,
+          );
+      only-then = λ a. settled-none lo hi (zero-of (settled lo hi) (sym answer-is ∙ a));
+      settled = λ d t most.
+          let e = greatest lo hi d t most in
+          let n = ne-eqb d 0 (positive-digits d t) in (
+            answer-is ∙ ap (λ (k : ℕ). answer (cond (eqb k 0) 9 0) k) e ∙ ap (λ (b : Bool). answer (cond b 9 0) d) n,
+            λ D L dp h whole.
+                bytes-are ∙ ap (λ (k : ℕ). cond (eqb (cond (eqb k 0) 9 0) 0) (lowDigits k (quotient lo (unitAt k)) ++ drop k out) out) e
+                ∙ ap (λ (b : Bool). cond (eqb (cond b 9 0) 0) (lowDigits d (quotient lo (unitAt d)) ++ drop d out) out) n
+                ∙ ap (λ (l : List ℕ). l ++ drop d out) (digits d t D L dp h whole),
+          );
+    }
+      where
+        -- an answer of -9 is no number of digits
+        zero-of : (k : ℕ) → answer (cond (eqb k 0) 9 0) k ≡ negℤ (pos 9) → k ≡ 0
+        zero-of zero e = refl
+        zero-of (suc k) e = absurd (pos-ne-negsuc (suc k) 8 (rw (ne-eqb (suc k) 0 (λ q. omega (arith, q))) at e))
+
+        positive-digits : (d : ℕ) → Settles lo hi d → d ≡ 0 → ⊥
+        positive-digits d t e = let h = t .0 in omega (arith, h, e)
+
+  opens-fresh : (s : List ℕ) → length s ≡ ledgerSize (limitsOf F)
+      → (openAnswer (limitsOf F) p C s ≡ pos 0) × (openBytes (limitsOf F) p C s ≡ fresh (limitsOf F) p C)
+  unfolding openAnswer openBytes openRefusal refusal answer
+  opens-fresh s h = rw (h, eq-eqb (ledgerSize (limitsOf F)) (ledgerSize (limitsOf F)) refl, range) (refl, refl)
+
+  pub settlement : (posts : List Post) → Settled F p C posts
+  unfolding lo hi bytes
+  settlement posts =
+      let lim = limitsOf F in
+      let s = plainPosts lim (opened p C) posts in
+      let g = posts-good lim (opened p C) posts (good-opened lim p C fits range) in
+      let final = ledger-is lim p C fits range posts in
+      record {
+        opens = λ s h. opens-fresh s h;
+        answers = answers-are lim p C fits range posts;
+        ledger = final;
+        total = filled-total F p C fits range posts;
+        near = λ f. subst (λ (t : ℕ). (D L : ℕ) → 0 < D → termCount F p ≤ L → MakesWhole F p L D
+            → LiesFrom D (lowOf F p t) (highOf F p t) (exactSum F p D L))
+            (sym (filled-total F p C fits range posts f)) all-near;
+        closing = λ f out room.
+            let k = kept-posts F p C (opened p C) posts (kept-opened F p C fits range) (f .right) in
+            subst (λ (t : ℕ). Closed F p (lowOf F p t) (highOf F p t) (postsBytes lim (fresh lim p C) posts) out)
+            (sym (filled-total F p C fits range posts f))
+            (subst (λ (l : List ℕ). Closed F p lo hi l out) (sym final)
+            (closed s g (k .run-p) (filled-total F p C fits range posts f)
+            (λ row block h l. mark-encode lim s g row block
+            ∙ filled-all F p C fits range posts f row block (is-ticket lim C row block h (subst (λ (n : ℕ). block < n) (k .run-C) l)))
+            out room));
+      }
+
+-- Demand 3
+pub demand3 : Demand3
+demand3 p C range posts = settlement bellard (omega arith) positive bellard-rest p C range posts

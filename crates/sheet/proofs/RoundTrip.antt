@@ -1,0 +1,368 @@
+-- What the writer writes, the reader takes and gives back; and an accepted sheet with right sums is what the writer writes.
+-- Assumes nothing.
+use mathlib.Core.Path.{_≡_, refl, sym, ap, ap₂, _∙_, subst}
+use mathlib.Core.Bool.{Bool, true, false, not, _&&_, _||_}
+use mathlib.Core.List.{List, [], _∷_, _++_, List·Memᴰ, List·Memᴰ·head, List·Memᴰ·tail}
+use Prim.Native.Nat.{ℕ, zero, suc, _+_, _*_, _/_, _%_, _^_, _<_, _≤_}
+use native.Mathlib.Nat.{not-suc-le-zero, mod-eq-of-lt}
+use native.Mathlib.Omega.{arith}
+use borrow.Author.Tests.{ltb-false, eqb-true, eqb-false, le-ltb, eq-eqb, ne-eqb, not-false}
+use lib.Dec.{ltb, eqb}
+use lib.IntN.{pos}
+use lib.ListN.{length, getD, take, drop, length-append}
+use lib.Pow.{pow-pos}
+use lib.Seq.{getD-drop, take-at}
+use Rattle.algebra.specs.Test.{allBelow}
+use Rattle.algebra.proofs.Booleans.{and-left, and-right}
+use Rattle.algebra.proofs.Below.{all-true, all-at}
+use Rattle.algebra.proofs.Integers.{residue-lt}
+use Rattle.words.specs.Bytes.{bytesOf, valueOf, field, AllBytes}
+use Rattle.words.proofs.Bytes.{length-bytes}
+use Rattle.series.specs.Series.{Formula, rowCount, modulus, rangeSum}
+use Rattle.run.specs.Refusal.{Test, _⇐_, refusal, answer}
+use Rattle.run.specs.Run.{Limits, limitsOf, inRange, isTicket, ticketSum}
+use Rattle.run.proofs.Range.{Range, range-of, ticket-row, ticket-block}
+use Rattle.ledger.specs.Ledger.{View}
+use Rattle.ledger.specs.Plain.{Entry}
+use Rattle.sheet.specs.Sheet.{sheetLength, sheetMost, listMost, sheetPos, sheetBlocks, sheetCount, entries, every, allTickets, key, ascending, wellFormed, contentsOf, bodiesOf, sheetOf, listOf, listed}
+use Rattle.sheet.specs.Calls.{over, writeRefusal, writeAnswer, writeBytes, readRefusal, readAnswer, readList, readSums, sheetRefusal}
+use Rattle.sheet.specs.RoundTrip.{Fits, written, ReadsBack, WrittenReadsBack, Accepted, RightSums, AcceptedIsWritten}
+use Rattle.sheet.proofs.Simulation.{pass, formed}
+use Rattle.sheet.proofs.Many.{run-holds, count-entries, count-listed}
+use Rattle.sheet.proofs.Sheets.{Fitting, pos-read, blocks-read, count-read, entries-read, sheet-again, length-contents}
+
+neither : (a b : Bool) → (a || b) ≡ false → (a ≡ false) × (b ≡ false)
+neither true b e = absurd (let z : _≡_ {A = ℕ} 0 1 = cc in omega arith)
+neither false b e = (refl, e)
+
+-- ---- what the writer has tested
+
+record Taken (F : Formula) (p C : ℕ) (list out : List ℕ) : Type 0 where
+  even : length list % 2 ≡ 0
+  short : length list ≤ listMost (limitsOf F)
+  room : sheetLength (length list / 2) ≤ length out
+  range : inRange (limitsOf F) p C ≡ true
+  ascends : ascending (listed F p C list) ≡ true
+  tickets : allTickets (limitsOf F) C (listed F p C list) ≡ true
+
+taken-of : (F : Formula) (p C : ℕ) (list out : List ℕ) → writeRefusal F p C list out ≡ 0 → Taken F p C list out
+unfolding writeRefusal
+taken-of F p C list out e =
+    let e₁ = pass 0 _ _ e in
+    let e₂ = pass 1 _ _ (e₁ .1) in
+    let e₃ = pass 2 _ _ (e₂ .1) in
+    let e₄ = pass 3 _ _ (e₃ .1) in
+    let b = neither (eqb (length list % 2) 1 || ltb (listMost (limitsOf F)) (length list)) (ltb (length out) (sheetLength (length list / 2))) (e₁ .0) in
+    let a = neither (eqb (length list % 2) 1) (ltb (listMost (limitsOf F)) (length list)) (b .0) in
+    let odd = eqb-false (length list % 2) 1 (a .0) in
+    record {
+      even = omega arith;
+      short = ltb-false (listMost (limitsOf F)) (length list) (a .1);
+      room = ltb-false (length out) (sheetLength (length list / 2)) (b .1);
+      range = not-false _ (e₂ .0);
+      ascends = not-false _ (e₃ .0);
+      tickets = not-false _ (e₄ .0);
+    }
+
+of-taken : (F : Formula) (p C : ℕ) (list out : List ℕ) → Taken F p C list out → writeRefusal F p C list out ≡ 0
+unfolding writeRefusal refusal
+of-taken F p C list out t =
+    let odd : eqb (length list % 2) 1 ≡ false = ne-eqb (length list % 2) 1 (λ q. let e = t .even in omega (arith, q, e)) in
+    rw (
+      odd,
+      le-ltb (listMost (limitsOf F)) (length list) (t .short),
+      le-ltb (length out) (sheetLength (length list / 2)) (t .room),
+      t .range,
+      t .ascends,
+      t .tickets,
+    ) refl
+
+-- ---- lengths
+
+length-bodies : (ts : List Entry) → length (bodiesOf ts) ≡ 16 * length ts
+unfolding bodiesOf bytesOf
+length-bodies [] = refl
+length-bodies (t ∷ ts) = let h = length-bodies ts in omega (arith, h)
+
+length-sheet : (p C : ℕ) (ts : List Entry) → length (sheetOf p C ts) ≡ sheetLength (length ts)
+unfolding sheetOf bytesOf
+length-sheet p C ts =
+    let c = length-contents ts in
+    let b = length-bodies ts in
+    let a = length-append (contentsOf ts) (bodiesOf ts) in
+    omega (arith, a, b, c)
+
+length-list : (ts : List Entry) → length (listOf ts) ≡ 2 * length ts
+unfolding listOf bytesOf
+length-list [] = refl
+length-list (t ∷ ts) = let h = length-list ts in omega (arith, h)
+
+-- ---- a list is that of its tickets
+
+-- the two bytes of a pair
+pair-low : (r b : ℕ) → b < 256 → (256 * r + b) % 256 ≡ b
+pair-low r b h = omega arith
+
+pair-high : (r b : ℕ) → r < 256 → b < 256 → (256 * r + b) / 256 % 256 ≡ r
+pair-high r b h l =
+    let q : (256 * r + b) / 256 ≡ r = omega arith in
+    ap (λ (n : ℕ). n % 256) q ∙ mod-eq-of-lt h
+
+list-again : (F : Formula) (p C : ℕ) (list : List ℕ) → AllBytes list → length list % 2 ≡ 0 → listOf (listed F p C list) ≡ list
+unfolding listed listOf bytesOf AllBytes
+list-again F p C [] h e = refl
+list-again F p C (b ∷ []) h e = absurd (omega (arith, e))
+list-again F p C (b ∷ r ∷ bs) h e =
+    let hb : b < 256 = h 0 in
+    let hr : r < 256 = h 1 in
+    let low = pair-low r b hb in
+    let high = pair-high r b hr hb in
+    let even : length bs % 2 ≡ 0 = omega (arith, e) in
+    ap₂ (λ (x : ℕ) (l : List ℕ). x ∷ l) low
+    (ap₂ (λ (x : ℕ) (l : List ℕ). x ∷ l) high (list-again F p C bs (λ i. h (suc (suc i))) even))
+
+-- the tickets of a list of tickets, where rows and blocks fit a byte and the sums are right
+listed-again : (F : Formula) (p C : ℕ) (ts : List Entry) → rowCount F < 256 → C ≤ 256 → allTickets (limitsOf F) C ts ≡ true
+    → ((t : Entry) → List·Memᴰ t ts → t .sum ≡ ticketSum F p C (t .row) (t .block)) → listed F p C (listOf ts) ≡ ts
+unfolding listed listOf bytesOf every
+listed-again F p C [] few w a right = refl
+listed-again F p C (t ∷ ts) few w a right =
+    let here = and-left (isTicket (limitsOf F) C (t .row) (t .block)) (allTickets (limitsOf F) C ts) a in
+    let hr = ticket-row (limitsOf F) C (t .row) (t .block) here in
+    let hb = ticket-block (limitsOf F) C (t .row) (t .block) here in
+    let low : key t % 256 ≡ t .block = pair-low (t .row) (t .block) (omega arith) in
+    let high : key t / 256 % 256 ≡ t .row = pair-high (t .row) (t .block) (omega arith) (omega arith) in
+    ap₂ (λ (x : Entry) (l : List Entry). x ∷ l)
+    (λ j. record {
+      row = high j;
+      block = low j;
+      sum = (ap₂ (λ (x y : ℕ). ticketSum F p C x y) high low ∙ sym (right t (List·Memᴰ·head refl))) j;
+    })
+    (listed-again F p C ts few w (and-right (isTicket (limitsOf F) C (t .row) (t .block)) (allTickets (limitsOf F) C ts) a)
+    (λ u m. right u (List·Memᴰ·tail m)))
+
+-- ---- what is written is well formed
+
+-- each entry of a list of tickets fits its bytes
+fitting : (F : Formula) (p C : ℕ) (list : List ℕ) → C ≤ 256 → allTickets (limitsOf F) C (listed F p C list) ≡ true → Fitting (listed F p C list)
+unfolding listed every ticketSum rangeSum
+fitting F p C [] w a = tt
+fitting F p C (b ∷ []) w a = tt
+fitting F p C (b ∷ r ∷ bs) w a =
+    let h = ticket-block (limitsOf F) C r b (and-left (isTicket (limitsOf F) C r b) (allTickets (limitsOf F) C (listed F p C bs)) a) in
+    (omega arith, residue-lt modulus _ (pow-pos 128), fitting F p C bs w (and-right (isTicket (limitsOf F) C r b) (allTickets (limitsOf F) C (listed F p C bs)) a))
+
+contents-zero : (ts : List Entry) (rest : List ℕ) (i : ℕ) → i < length ts → getD (contentsOf ts ++ rest) (1 + 4 * i) 0 ≡ 0
+unfolding contentsOf bytesOf
+contents-zero [] rest i h = absurd (not-suc-le-zero h)
+contents-zero (t ∷ ts) rest zero h = refl
+contents-zero (t ∷ ts) rest (suc i) h =
+    let q : 1 + 4 * suc i ≡ suc (suc (suc (suc (1 + 4 * i)))) = omega arith in
+    ap (λ (n : ℕ). getD (contentsOf (t ∷ ts) ++ rest) n 0) q ∙ contents-zero ts rest i (omega arith)
+
+module _ (p C : ℕ) (ts : List Entry) (p-fits : p < 2 ^ 64) (C-fits : C < 65536) (few : length ts < 65536) (fits : Fitting ts) where
+  zero-bytes : (i : ℕ) → i < length ts → eqb (getD (sheetOf p C ts) (17 + 4 * i) 0) 0 ≡ true
+  unfolding sheetOf bytesOf
+  zero-bytes i h =
+      let q : 17 + 4 * i ≡ 16 + (1 + 4 * i) = omega arith in
+      eq-eqb _ 0
+      (ap (λ (n : ℕ). getD (sheetOf p C ts) n 0) q ∙ sym (getD-drop 16 (sheetOf p C ts) (1 + 4 * i) 0)
+      ∙ contents-zero ts (bodiesOf ts) i h)
+
+  gap : field (sheetOf p C ts) 12 4 ≡ 0
+  unfolding field valueOf sheetOf bytesOf
+  gap = refl
+
+  pub written-formed : ascending ts ≡ true → wellFormed (sheetOf p C ts) ≡ true
+  unfolding wellFormed
+  written-formed a =
+      rw (
+        count-read p C ts p-fits C-fits few fits,
+        eq-eqb (length (sheetOf p C ts)) (sheetLength (length ts)) (length-sheet p C ts),
+        gap,
+        all-true (length ts) _ zero-bytes,
+        entries-read p C ts p-fits C-fits few fits,
+        a,
+      ) refl
+
+-- ---- written, then read
+
+module _ (F : Formula) (fits : Fits F) (p C : ℕ) (list out list′ sums′ : List ℕ) (bytes : AllBytes list) (t : Taken F p C list out)
+    (room-list : length list ≤ length list′) (room-sums : 8 * length list ≤ length sums′) where
+  ts : List Entry
+  ts = listed F p C list
+
+  s : List ℕ
+  s = sheetOf p C ts
+
+  count : length ts ≡ length list / 2
+  unfolding ts
+  count = count-listed F p C list
+
+  written-is : written F p C list out ≡ s
+  unfolding writeBytes s ts
+  written-is =
+      rw (of-taken F p C list out t)
+      (take-at (sheetOf p C (listed F p C list)) _ (sheetLength (length list / 2))
+      (length-sheet p C (listed F p C list) ∙ ap sheetLength (count-listed F p C list)))
+
+  p-fits : p < 2 ^ 64
+  p-fits = let r = range-of (limitsOf F) p C (t .range) in let n = fits .near in let h = r .p-high in omega (arith, h, n)
+
+  C-small : C ≤ 256
+  C-small = range-of (limitsOf F) p C (t .range) .C-high
+
+  few : length ts < 65536
+  few = let h = t .short in let n = fits .few in let c = count in omega (arith, h, n, c)
+
+  entries-fit : Fitting ts
+  unfolding ts
+  entries-fit = fitting F p C list C-small (t .tickets)
+
+  C-fits : C < 65536
+  C-fits = let h = C-small in omega arith
+
+  count-is : sheetCount s ≡ length list / 2
+  unfolding s
+  count-is = count-read p C ts p-fits C-fits few entries-fit ∙ count
+
+  entries-are : entries s ≡ ts
+  unfolding s
+  entries-are = entries-read p C ts p-fits C-fits few entries-fit
+
+  not-refused : readRefusal (limitsOf F) s list′ sums′ ≡ 0
+  unfolding readRefusal refusal s ts
+  not-refused =
+      let len : length s ≡ sheetLength (length list / 2) = length-sheet p C ts ∙ ap sheetLength count in
+      let h = t .short in
+      let ev = t .even in
+      rw (
+        len,
+        count-is,
+        le-ltb (sheetLength (length list / 2)) 16 (omega arith),
+        le-ltb (sheetMost (limitsOf F)) (sheetLength (length list / 2)) (omega (arith, h)),
+        le-ltb (length list′) (2 * (length list / 2)) (omega (arith, ev)),
+        le-ltb (length sums′) (16 * (length list / 2)) (omega (arith, ev)),
+        pos-read p C ts p-fits C-fits few entries-fit,
+        blocks-read p C ts p-fits C-fits few entries-fit,
+        t .range,
+        written-formed p C ts p-fits C-fits few entries-fit (t .ascends),
+        entries-are,
+        t .tickets,
+      ) refl
+
+  reads-back : ReadsBack F p C list out list′ sums′
+  unfolding readAnswer readList readSums answer ts s
+  reads-back = record {
+    count = rw (written-is, not-refused, count-is) refl;
+    list-is = rw (written-is, not-refused, entries-are, list-again F p C list bytes (t .even)) refl;
+    sums-are = rw (written-is, not-refused, entries-are) refl;
+    pos-is = rw written-is (pos-read p C ts p-fits C-fits few entries-fit);
+    blocks-are = rw written-is (blocks-read p C ts p-fits C-fits few entries-fit);
+  }
+
+pub written-reads-back : (F : Formula) → Fits F → WrittenReadsBack F
+written-reads-back F fits p C list out list′ sums′ bytes e a b =
+    reads-back F fits p C list out list′ sums′ bytes (taken-of F p C list out e) a b
+
+-- ---- accepted, then written
+
+module _ (F : Formula) (fits : Fits F) (s out : List ℕ) (bytes : AllBytes s) (acc : Accepted (limitsOf F) s) (right : RightSums F s)
+    (room : length s ≤ length out) where
+  tested : Bool
+  tested =
+      eqb (length s) (sheetLength (sheetCount s)) && eqb (field s 12 4) 0
+      && allBelow (sheetCount s) (λ i. eqb (getD s (17 + 4 * i) 0) 0)
+
+  tests-hold : tested ≡ true
+  unfolding tested wellFormed
+  tests-hold = and-left tested (ascending (entries s)) (acc .formed)
+
+  length-is : length s ≡ sheetLength (sheetCount s)
+  unfolding tested
+  length-is =
+      let a = and-left (eqb (length s) (sheetLength (sheetCount s)) && eqb (field s 12 4) 0) _ tests-hold in
+      eqb-true _ _ (and-left (eqb (length s) (sheetLength (sheetCount s))) _ a)
+
+  again : sheetOf (sheetPos s) (sheetBlocks s) (entries s) ≡ s
+  unfolding tested
+  again =
+      let a = and-left (eqb (length s) (sheetLength (sheetCount s)) && eqb (field s 12 4) 0) _ tests-hold in
+      let z = and-right (eqb (length s) (sheetLength (sheetCount s)) && eqb (field s 12 4) 0) _ tests-hold in
+      sheet-again s bytes length-is (eqb-true _ _ (and-right (eqb (length s) (sheetLength (sheetCount s))) _ a))
+      (λ j h. eqb-true _ _ (all-at (sheetCount s) _ z j h))
+
+  listed-are : listed F (sheetPos s) (sheetBlocks s) (listOf (entries s)) ≡ entries s
+  unfolding RightSums
+  listed-are =
+      listed-again F (sheetPos s) (sheetBlocks s) (entries s) (fits .few)
+      (range-of (limitsOf F) (sheetPos s) (sheetBlocks s) (acc .range) .C-high) (acc .tickets) right
+
+  list-length : length (listOf (entries s)) ≡ 2 * sheetCount s
+  unfolding entries
+  list-length = length-list (entries s) ∙ ap (λ (n : ℕ). 2 * n) (count-entries s (sheetCount s) 0)
+
+  half : length (listOf (entries s)) / 2 ≡ sheetCount s
+  half = let h = list-length in omega (arith, h)
+
+  taken : Taken F (sheetPos s) (sheetBlocks s) (listOf (entries s)) out
+  taken =
+      let h = list-length in
+      let l = length-is in
+      let m = acc .size-high in
+      record {
+        even = omega (arith, h);
+        short = omega (arith, h, l, m);
+        room = rw half (omega (arith, l, room));
+        range = acc .range;
+        ascends = ap ascending listed-are ∙ formed s (acc .formed);
+        tickets = ap (allTickets (limitsOf F) (sheetBlocks s)) listed-are ∙ acc .tickets;
+      }
+
+  is-written : (writeAnswer F (sheetPos s) (sheetBlocks s) (listOf (entries s)) out ≡ pos (length s))
+      × (writeBytes F (sheetPos s) (sheetBlocks s) (listOf (entries s)) out ≡ over s out)
+  unfolding writeAnswer writeBytes answer
+  is-written = (
+    rw (of-taken F (sheetPos s) (sheetBlocks s) (listOf (entries s)) out taken, half) (ap pos (sym length-is)),
+    rw (of-taken F (sheetPos s) (sheetBlocks s) (listOf (entries s)) out taken, listed-are, again) refl,
+  )
+
+pub accepted-is-written : (F : Formula) → Fits F → AcceptedIsWritten F
+accepted-is-written F fits s out bytes acc right room = is-written F fits s out bytes acc right room
+
+-- ---- what the reader takes, and what a post of a sheet takes, is accepted
+
+pub read-accepted : (lim : Limits) (s list sums : List ℕ) → readRefusal lim s list sums ≡ 0 → Accepted lim s
+unfolding readRefusal
+read-accepted lim s list sums e =
+    let e₁ = pass 0 _ _ e in
+    let e₂ = pass 1 _ _ (e₁ .1) in
+    let e₃ = pass 2 _ _ (e₂ .1) in
+    let e₄ = pass 3 _ _ (e₃ .1) in
+    let c = neither (ltb (length s) 16 || ltb (sheetMost lim) (length s) || ltb (length list) (2 * sheetCount s)) _ (e₁ .0) in
+    let b = neither (ltb (length s) 16 || ltb (sheetMost lim) (length s)) _ (c .0) in
+    let a = neither (ltb (length s) 16) (ltb (sheetMost lim) (length s)) (b .0) in
+    record {
+      size-low = ltb-false (length s) 16 (a .0);
+      size-high = ltb-false (sheetMost lim) (length s) (a .1);
+      range = not-false _ (e₂ .0);
+      formed = not-false _ (e₃ .0);
+      tickets = not-false _ (e₄ .0);
+    }
+
+pub post-accepted : (lim : Limits) (v : View) (s : List ℕ) → sheetRefusal lim v s ≡ 0 → Accepted lim s
+unfolding sheetRefusal
+post-accepted lim v s e =
+    let e₁ = pass 0 _ _ e in
+    let e₂ = pass 1 _ _ (e₁ .1) in
+    let e₃ = pass 2 _ _ (e₂ .1) in
+    let e₄ = pass 3 _ _ (e₃ .1) in
+    let b = neither (not (v .sized) || ltb (length s) 16) (ltb (sheetMost lim) (length s)) (e₁ .0) in
+    let a = neither (not (v .sized)) (ltb (length s) 16) (b .0) in
+    record {
+      size-low = ltb-false (length s) 16 (a .1);
+      size-high = ltb-false (sheetMost lim) (length s) (b .1);
+      range = not-false _ (e₂ .0);
+      formed = not-false _ (e₃ .0);
+      tickets = not-false _ (e₄ .0);
+    }

@@ -1,0 +1,202 @@
+-- On a fresh ledger every list of posts leaves in the bytes what the plain ledger holds, and answers as it does: one post at a time,
+-- since what is seen of the bytes is what is seen of the plain ledger, and each ticket that goes in makes the same step in both.
+-- Assumes nothing.
+use mathlib.Core.Path.{_≡_, refl, sym, ap, ap₂, _∙_, subst}
+use mathlib.Core.Bool.{Bool, true, false, cond, not, _&&_}
+use mathlib.Core.List.{List, [], _∷_, foldl}
+use Prim.Native.Nat.{ℕ, suc, _+_, _*_, _^_, _<_, _≤_}
+use native.Mathlib.Nat.{mod-lt}
+use native.Mathlib.Omega.{arith}
+use borrow.Author.Tests.{ltb-true, eqb-true, eqb-false, lt-ltb, not-true, not-false}
+use lib.Dec.{ltb, eqb}
+use lib.IntN.{ℤ}
+use lib.Pow.{pow-pos}
+use lib.ListN.{length, getD}
+use Rattle.algebra.specs.Test.{allBelow}
+use Rattle.algebra.proofs.Booleans.{and-left, and-right, and-both}
+use Rattle.words.specs.Bytes.{field}
+use Rattle.run.specs.Refusal.{Test, _⇐_, refusal, answer}
+use Rattle.run.specs.Run.{Limits, inRange, isTicket}
+use Rattle.ledger.specs.Ledger.{View, viewOf, fresh}
+use Rattle.ledger.specs.Plain.{Plain, Entry, plainView, encode, admit, including, opened}
+use Rattle.ledger.specs.Calls.{ticketRefusal, ticketAnswer, ticketBytes}
+use Rattle.ledger.proofs.Image.{Good, including-here, including-else, view-encode, enter-encode, fresh-encode}
+use Rattle.sheet.specs.Sheet.{every, allTickets, key, sheetLength, sheetPos, sheetBlocks, sheetCount, entries, ascending, wellFormed}
+use Rattle.sheet.specs.Calls.{sheetRefusal, sheetAnswer, sheetBytes, enterEntry}
+use Rattle.sheet.specs.Posts.{Post, ticket, sheet, postRefusal, postEntries, postBytes, postAnswer, plainAnswer, plainPost, postsBytes, postsAnswers, plainPosts, plainAnswers}
+
+-- ---- the plain ledger as opened
+
+pub good-opened : (lim : Limits) (p C : ℕ) → lim .last < 2 ^ 64 → inRange lim p C ≡ true → Good lim (opened p C)
+unfolding opened
+good-opened lim p C h e = record { fits = h; range = e; total-in = pow-pos 128; tickets-in = λ row block f. cc }
+
+-- ---- one ticket
+
+pub good-admit : (lim : Limits) (s : Plain) (t : Entry) → Good lim s → isTicket lim (s .C) (t .row) (t .block) ≡ true → Good lim (admit s t)
+unfolding admit
+good-admit lim s t g h = record {
+  fits = g .fits;
+  range = g .range;
+  total-in = mod-lt (s .total + t .sum) (pow-pos 128);
+  tickets-in = λ row block. go row block (eqb (t .row) row) refl (eqb (t .block) block) refl;
+}
+  where
+    go : (row block : ℕ) (a : Bool) → eqb (t .row) row ≡ a → (b : Bool) → eqb (t .block) block ≡ b
+        → including t (s .tickets) row block ≡ true → isTicket lim (s .C) row block ≡ true
+    go row block true e true f k = subst (λ (x : ℕ). isTicket lim (s .C) x block ≡ true) (eqb-true _ _ e)
+        (subst (λ (x : ℕ). isTicket lim (s .C) (t .row) x ≡ true) (eqb-true _ _ f) h)
+    go row block true e false f k =
+        g .tickets-in row block (including-else t (s .tickets) row block (λ q. eqb-false _ _ f (sym (q .1))) ∙ k)
+    go row block false e b f k =
+        g .tickets-in row block (including-else t (s .tickets) row block (λ q. eqb-false _ _ e (sym (q .0))) ∙ k)
+
+-- ---- several tickets, in order
+
+-- each is one of the run and is not in the set when its turn comes
+abbrev pub Ready : Limits → Plain → List Entry → Type 0
+Ready lim s [] = Unit {0}
+Ready lim s (t ∷ ts) = (isTicket lim (s .C) (t .row) (t .block) ≡ true) × (s .tickets (t .row) (t .block) ≡ false) × Ready lim (admit s t) ts
+
+pub entered : (lim : Limits) (s : Plain) (ts : List Entry) → Good lim s → Ready lim s ts
+    → (foldl enterEntry (encode lim s) ts ≡ encode lim (foldl admit s ts)) × Good lim (foldl admit s ts)
+entered lim s [] g r = (refl, g)
+entered lim s (t ∷ ts) g r =
+    let rest = entered lim (admit s t) ts (good-admit lim s t g (r .0)) (r .2) in
+    (ap (λ (l : List ℕ). foldl enterEntry l ts) (enter-encode lim s g t (r .0) (r .1)) ∙ rest .0, rest .1)
+
+-- ---- a sheet's tickets are ready
+
+every-and : (f g h : Entry → Bool) → ((t : Entry) → f t ≡ true → g t ≡ true → h t ≡ true)
+    → (ts : List Entry) → every f ts ≡ true → every g ts ≡ true → every h ts ≡ true
+unfolding every
+every-and f g h i [] a b = refl
+every-and f g h i (t ∷ ts) a b =
+    and-both (h t) (every h ts) (i t (and-left (f t) (every f ts) a) (and-left (g t) (every g ts) b))
+    (every-and f g h i ts (and-right (f t) (every f ts) a) (and-right (g t) (every g ts) b))
+
+-- in an ascending list all keys after the first are above it
+all-above : (k : ℕ) (t : Entry) (ts : List Entry) → k ≤ key t → ascending (t ∷ ts) ≡ true → every (λ u. ltb k (key u)) ts ≡ true
+unfolding every ascending
+all-above k t [] h a = refl
+all-above k t (u ∷ ts) h a =
+    let l = ltb-true (key t) (key u) (and-left (ltb (key t) (key u)) (ascending (u ∷ ts)) a) in
+    and-both (ltb k (key u)) (every (λ v. ltb k (key v)) ts) (lt-ltb k (key u) (omega arith))
+    (all-above k u ts (omega arith) (and-right (ltb (key t) (key u)) (ascending (u ∷ ts)) a))
+
+ascending-tail : (t : Entry) (ts : List Entry) → ascending (t ∷ ts) ≡ true → ascending ts ≡ true
+unfolding ascending
+ascending-tail t [] a = refl
+ascending-tail t (u ∷ ts) a = and-right (ltb (key t) (key u)) (ascending (u ∷ ts)) a
+
+still-new : (s : Plain) (t u : Entry) → not (s .tickets (u .row) (u .block)) ≡ true → ltb (key t) (key u) ≡ true
+    → not (including t (s .tickets) (u .row) (u .block)) ≡ true
+still-new s t u n l =
+    let h = ltb-true (key t) (key u) l in
+    ap not (sym (including-else t (s .tickets) (u .row) (u .block) (λ q. let q₀ = q .0 in let q₁ = q .1 in omega (arith, q₀, q₁)))) ∙ n
+
+pub ready : (lim : Limits) (s : Plain) (ts : List Entry) → allTickets lim (s .C) ts ≡ true
+    → every (λ t. not (s .tickets (t .row) (t .block))) ts ≡ true → ascending ts ≡ true → Ready lim s ts
+unfolding every admit
+ready lim s [] a b c = tt
+ready lim s (t ∷ ts) a b c = (
+  and-left (isTicket lim (s .C) (t .row) (t .block)) _ a,
+  not-true _ (and-left (not (s .tickets (t .row) (t .block))) _ b),
+  ready lim (admit s t) ts (and-right (isTicket lim (s .C) (t .row) (t .block)) _ a)
+      (every-and (λ u. not (s .tickets (u .row) (u .block))) (λ u. ltb (key t) (key u)) (λ u. not (including t (s .tickets) (u .row) (u .block)))
+      (λ u. still-new s t u) ts (and-right (not (s .tickets (t .row) (t .block))) _ b) (all-above (key t) t ts (omega arith) c))
+      (ascending-tail t ts c),
+)
+
+-- ---- what a post that is not refused has passed
+
+pub pass : (n : ℕ) (b : Bool) (ts : List Test) → refusal ((suc n ⇐ b) ∷ ts) ≡ 0 → (b ≡ false) × (refusal ts ≡ 0)
+unfolding refusal
+pass n true ts e = absurd (omega (arith, e))
+pass n false ts e = (refl, e)
+
+pub formed : (b : List ℕ) → wellFormed b ≡ true → ascending (entries b) ≡ true
+unfolding wellFormed
+formed b h = and-right
+    (eqb (length b) (sheetLength (sheetCount b)) && eqb (field b 12 4) 0 && allBelow (sheetCount b) (λ i. eqb (getD b (17 + 4 * i) 0) 0)) (ascending (entries b)) h
+
+pub post-ready : (lim : Limits) (s : Plain) (a : Post) → postRefusal lim (plainView s) a ≡ 0 → Ready lim s (postEntries a)
+unfolding postRefusal ticketRefusal sheetRefusal plainView postEntries
+post-ready lim s (ticket p C row block sum) e =
+    let e₁ = pass 0 _ _ e in
+    let e₂ = pass 1 _ _ (e₁ .1) in
+    let e₄ = pass 3 _ _ (e₂ .1) in
+    let e₅ = pass 4 _ _ (e₄ .1) in
+    let e₆ = pass 5 _ _ (e₅ .1) in
+    let e₇ = pass 6 _ _ (e₆ .1) in
+    let c = eqb-true C (s .C) (and-right (eqb p (s .p)) (eqb C (s .C)) (not-false _ (e₆ .0))) in
+    (subst (λ (n : ℕ). isTicket lim n row block ≡ true) c (not-false _ (e₄ .0)), e₇ .0, tt)
+post-ready lim s (sheet b) e =
+    let e₁ = pass 0 _ _ e in
+    let e₂ = pass 1 _ _ (e₁ .1) in
+    let e₃ = pass 2 _ _ (e₂ .1) in
+    let e₄ = pass 3 _ _ (e₃ .1) in
+    let e₅ = pass 4 _ _ (e₄ .1) in
+    let e₆ = pass 5 _ _ (e₅ .1) in
+    let e₇ = pass 6 _ _ (e₆ .1) in
+    let c = eqb-true (sheetBlocks b) (s .C) (and-right (eqb (sheetPos b) (s .p)) (eqb (sheetBlocks b) (s .C)) (not-false _ (e₆ .0))) in
+    ready lim s (entries b) (subst (λ (n : ℕ). allTickets lim n (entries b) ≡ true) c (not-false _ (e₄ .0)))
+    (not-false _ (e₇ .0)) (formed b (not-false _ (e₃ .0)))
+
+-- ---- one post: both calls test the same table, and put in the tickets that the post names
+
+post-bytes : (lim : Limits) (s : List ℕ) (a : Post)
+    → postBytes lim s a ≡ cond (eqb (postRefusal lim (viewOf lim s) a) 0) (foldl enterEntry s (postEntries a)) s
+unfolding postBytes ticketBytes sheetBytes postRefusal postEntries
+post-bytes lim s (ticket p C row block sum) = refl
+post-bytes lim s (sheet b) = refl
+
+post-answer : (lim : Limits) (s : List ℕ) (a : Post) → postAnswer lim s a ≡ answer (postRefusal lim (viewOf lim s) a) 0
+unfolding postAnswer ticketAnswer sheetAnswer postRefusal
+post-answer lim s (ticket p C row block sum) = refl
+post-answer lim s (sheet b) = refl
+
+pub step : (lim : Limits) (s : Plain) (a : Post) → Good lim s
+    → (postBytes lim (encode lim s) a ≡ encode lim (plainPost lim s a)) × Good lim (plainPost lim s a)
+unfolding plainPost
+step lim s a g = rw (post-bytes lim (encode lim s) a, view-encode lim s g) (go (eqb (postRefusal lim (plainView s) a) 0) refl)
+  where
+    go : (b : Bool) → eqb (postRefusal lim (plainView s) a) 0 ≡ b
+        → (cond b (foldl enterEntry (encode lim s) (postEntries a)) (encode lim s) ≡ encode lim (cond b (foldl admit s (postEntries a)) s))
+        × Good lim (cond b (foldl admit s (postEntries a)) s)
+    go true e = entered lim s (postEntries a) g (post-ready lim s a (eqb-true _ _ e))
+    go false e = (refl, g)
+
+-- ---- a list of posts
+
+module _ (lim : Limits) where
+  posts-ledger : (s : Plain) (posts : List Post) → Good lim s → postsBytes lim (encode lim s) posts ≡ encode lim (plainPosts lim s posts)
+  unfolding postsBytes plainPosts
+  posts-ledger s [] g = refl
+  posts-ledger s (a ∷ posts) g =
+      let h = step lim s a g in
+      ap (λ (l : List ℕ). postsBytes lim l posts) (h .0) ∙ posts-ledger (plainPost lim s a) posts (h .1)
+
+  posts-answers : (s : Plain) (posts : List Post) → Good lim s → postsAnswers lim (encode lim s) posts ≡ plainAnswers lim s posts
+  unfolding postsAnswers plainAnswers plainAnswer
+  posts-answers s [] g = refl
+  posts-answers s (a ∷ posts) g =
+      let h = step lim s a g in
+      ap₂ (λ (x : ℤ) (l : List ℤ). x ∷ l)
+      (post-answer lim (encode lim s) a ∙ ap (λ (v : View). answer (postRefusal lim v a) 0) (view-encode lim s g))
+      (ap (λ (l : List ℕ). postsAnswers lim l posts) (h .0) ∙ posts-answers (plainPost lim s a) posts (h .1))
+
+  pub posts-good : (s : Plain) (posts : List Post) → Good lim s → Good lim (plainPosts lim s posts)
+  unfolding plainPosts
+  posts-good s [] g = g
+  posts-good s (a ∷ posts) g = posts-good (plainPost lim s a) posts (step lim s a g .1)
+
+-- The simulation: a ledger that starts fresh.
+module _ (lim : Limits) (p C : ℕ) (fits : lim .last < 2 ^ 64) (range : inRange lim p C ≡ true) (posts : List Post) where
+  pub ledger-is : postsBytes lim (fresh lim p C) posts ≡ encode lim (plainPosts lim (opened p C) posts)
+  ledger-is =
+      ap (λ (l : List ℕ). postsBytes lim l posts) (fresh-encode lim p C) ∙ posts-ledger lim (opened p C) posts (good-opened lim p C fits range)
+
+  pub answers-are : postsAnswers lim (fresh lim p C) posts ≡ plainAnswers lim (opened p C) posts
+  answers-are =
+      ap (λ (l : List ℕ). postsAnswers lim l posts) (fresh-encode lim p C) ∙ posts-answers lim (opened p C) posts (good-opened lim p C fits range)
