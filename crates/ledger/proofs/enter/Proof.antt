@@ -3,6 +3,9 @@
 use mathlib.Core.Path.{_≡_, ap}
 use Prim.Native.Nat.{ℕ, _+_}
 use borrow.Author.Needs.{needs}
+use denote.Ref.{now}
+use lib.ListN.{getD}
+use Rattle.ledger.specs.Ledger.{markAt}
 use Rattle.ledger.proofs.Posting.{mark-fits, entered}
 use Rattle.ledger.proofs.enter.Statement.{statement}
 use Rattle.ledger.proofs.enter.Tie as tie
@@ -50,7 +53,8 @@ returns c =
     let read = put .before .before .before in
     let start = read .before .before .before .before in
     entered _ _ _ _ _ _ _ _ (read .get-wide .ensures) (put .before .add .ensures) (put .put-wide .ensures)
-    (ap (λ (n : ℕ). _ + n) (mark-fits _ _ _ (read .before .before .before .slice-known .given _ .fits) (start .pre .1) .0))
+    (ap (λ (n : ℕ). getD (now (start .args .ledger)) (markAt (start .args .row) (start .args .block)) 0 + n)
+    (mark-fits (now (start .args .ledger)) (start .args .row) (start .args .block) (read .before .before .before .slice-known .given _ .fits) (start .pre .1) .0))
 
 pub enter-spec : {M : Type 1} → statement M
 enter-spec =
