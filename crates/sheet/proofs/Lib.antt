@@ -2,3 +2,4 @@ pub mod Simulation
 pub mod Many
 pub mod Sheets
 pub mod RoundTrip
+pub mod Each

@@ -1,1 +1,4 @@
-// Sheets: writing, reading and posting them.
+// Sheets: reading and posting them, and the tests of their bytes.
+pub mod contents;
+pub mod posting;
+pub mod reading;
