@@ -3,3 +3,4 @@ pub mod Many
 pub mod Sheets
 pub mod RoundTrip
 pub mod Each
+pub mod Testing

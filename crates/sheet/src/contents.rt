@@ -4,17 +4,16 @@ use run::Refusal;
 use series::Series;
 
 ghost use mathlib.Core.Path.{_≡_};
-ghost use mathlib.Core.Bool.{not, _||_};
-ghost use mathlib.Core.List.{[], _∷_};
 ghost use Prim.Native.Nat.{_+_, _*_, _≤_, _<_};
-ghost use lib.Dec.{eqb, ltb};
+ghost use lib.Dec.{eqb};
 ghost use lib.ListN.{length, getD};
 ghost use Rattle.algebra.specs.Test.{allBelow};
 ghost use Rattle.series.specs.Names.{formulaOf};
-ghost use Rattle.run.specs.Refusal.{Test, _⇐_, refusal, answer};
-ghost use Rattle.run.specs.Run.{limitsOf, inRange};
+ghost use Rattle.run.specs.Refusal.{refusal, answer};
+ghost use Rattle.run.specs.Run.{limitsOf};
 ghost use Rattle.run.specs.Answers.{answerOf};
-ghost use Rattle.sheet.specs.Sheet.{sheetMost, sheetPos, sheetBlocks, sheetCount, rowIn, blockIn, entriesFrom, entries, allTickets, wellFormed};
+ghost use Rattle.sheet.specs.Sheet.{sheetMost, sheetCount, rowIn, blockIn, entriesFrom, allTickets, wellFormed};
+ghost use Rattle.sheet.specs.Tests.{byteTests};
 ghost use Rattle.sheet.specs.Sheet as definition;
 
 // The most bytes that a sheet can have.
@@ -122,7 +121,7 @@ pub fn all_tickets(f: Series, s: &[u8], c: u64, e: usize) -> bool
 // The tests of the refusal table on a sheet's bytes alone, from 2 on, in the order of their numbers.
 pub fn test_bytes(f: Series, s: &[u8]) -> Answer
     requires { ⌜ 16 ≤ length (now s) ⌝ }
-    ensures { λ r. ⌜ answerOf r ≡ answer (refusal ((2 ⇐ not (inRange (limitsOf (formulaOf f)) (sheetPos (now (s .entry))) (sheetBlocks (now (s .entry))))) ∷ (3 ⇐ not (wellFormed (now (s .entry)))) ∷ (4 ⇐ not (allTickets (limitsOf (formulaOf f)) (sheetBlocks (now (s .entry))) (entries (now (s .entry))))) ∷ [])) 0 ⌝ }
+    ensures { λ r. ⌜ answerOf r ≡ answer (refusal (byteTests (limitsOf (formulaOf f)) (now (s .entry)))) 0 ⌝ }
 {
     let c = words::get(s, 8, 2);
     if !run::in_range(f, words::get(s, 0, 8), c) {

@@ -1,54 +1,60 @@
+-- `sheet::contents::ascending` meets its contract: at each turn every entry passed is below the next.
+-- Assumes nothing.
+use mathlib.Core.Path.{_≡_, sym}
+use mathlib.Core.Bool.{true}
+use mathlib.Core.List.{List}
+use Prim.Native.Nat.{ℕ, _+_, _*_, _≤_, _<_, _-_}
+use native.Mathlib.Omega.{arith}
+use borrow.Author.Tests.{lt-ltb}
+use Rattle.algebra.specs.Test.{allBelow}
+use Rattle.algebra.proofs.Below.{below-none, below-next}
+use Rattle.sheet.specs.Sheet.{rowIn, blockIn, key}
+use Rattle.sheet.proofs.Each.{entry, rises, ascends, falls}
 use Rattle.sheet.proofs.contents.ascending.Statement.{statement}
 use Rattle.sheet.proofs.contents.ascending.Tie as tie
-use Rattle.sheet.proofs.contents.ascending.Reads as reads
-use Rattle.sheet.proofs.contents.ascending.Lts as lts
-use Rattle.sheet.proofs.contents.key.Reads as key-reads
+
+-- a turn, with the keys as the code has them
+next : (s : List ℕ) (i k l : ℕ) → k ≡ key (entry s (i + 1)) → l ≡ key (entry s i) → l < k → allBelow i (rises s) ≡ true
+    → allBelow (i + 1) (rises s) ≡ true
+next s i k l ek el h a = below-next i (rises s) a (lt-ltb _ _ (rw (ek, el) at h))
 
 abbrev Inv-loop : tie.InvT-loop
-Inv-loop s e i₀ i = ?
+Inv-loop s e i₀ i = (i ≤ e) × (allBelow i (rises s) ≡ true)
 
 abbrev μ-loop : tie.MeasureT-loop
-μ-loop s e i₀ i = ?
+μ-loop s e i₀ i = e - i
 
--- src/contents.rt:80:5
 loop-holds : tie.Need-loop-holds Inv-loop μ-loop
-loop-holds c = ?
+loop-holds c = (omega arith, below-none _)
 
--- src/contents.rt:80:11
 add-loop : tie.Need-add-loop Inv-loop μ-loop
-add-loop c = ?
+add-loop c = omega arith
 
--- src/contents.rt:81:19
 add-key : tie.Need-add-key Inv-loop μ-loop
-add-key c = ?
+add-key c = omega arith
 
--- src/contents.rt:81:12
 key-requires : tie.Need-key-requires Inv-loop μ-loop
-key-requires c κs = ?
+key-requires c κs = omega arith
 
--- src/contents.rt:81:29
 key-requires-2 : tie.Need-key-requires-2 Inv-loop μ-loop
-key-requires-2 c κs = ?
+key-requires-2 c κs = omega arith
 
--- src/contents.rt:82:13
 returns : tie.Need-returns Inv-loop μ-loop
-returns c = ?
+returns c =
+    falls _ _ _ (c .before .before .before .loop-test .taken) (rw (c .before .before .key .ensures, c .before .key2 .ensures) at (c .if1 .taken))
 
--- src/contents.rt:84:9
 add-i : tie.Need-add-i Inv-loop μ-loop
-add-i c = ?
+add-i c = omega arith
 
--- src/contents.rt:80:5
 loop-less : tie.Need-loop-less Inv-loop μ-loop
-loop-less c = ?
+loop-less c = omega arith
 
--- src/contents.rt:80:5
 loop-again : tie.Need-loop-again Inv-loop μ-loop
-loop-again c = ?
+loop-again c =
+    (omega arith, next _ _ _ _ (c .before .before .key .ensures) (c .before .key2 .ensures) (c .if1 .left) (c .before .before .before .before .loop .inv .1))
 
--- src/contents.rt:75:1
 returns-2 : tie.Need-returns-2 Inv-loop μ-loop
-returns-2 c = ?
+returns-2 c = ascends _ _ _ (c .loop-test .left) (c .before .loop .inv .1)
 
 pub ascending-spec : {M : Type 1} → statement M
 ascending-spec =

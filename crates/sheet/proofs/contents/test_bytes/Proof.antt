@@ -1,53 +1,62 @@
+-- `sheet::contents::test_bytes` meets its contract: one law for each way out.
+-- Assumes nothing.
+use mathlib.Core.Path.{_≡_, sym, _∙_}
+use native.Mathlib.Omega.{arith}
 use borrow.Author.Needs.{needs}
+use borrow.Author.Tests.{not-true, not-false}
+use Rattle.sheet.proofs.Testing.{formed-length, out-of-range, malformed, no-ticket, accepted}
 use Rattle.sheet.proofs.contents.test_bytes.Statement.{statement}
 use Rattle.sheet.proofs.contents.test_bytes.Tie as tie
-use Rattle.sheet.proofs.contents.test_bytes.Reads as reads
-use Rattle.sheet.proofs.contents.test_bytes.Lts as lts
-use Rattle.run.proofs.in_range.Reads as in-range-reads
-use Rattle.sheet.proofs.contents.all_tickets.Reads as all-tickets-reads
-use Rattle.sheet.proofs.contents.count.Reads as count-reads
-use Rattle.sheet.proofs.contents.well_formed.Reads as well-formed-reads
-use Rattle.words.proofs.get.Reads as get-reads
 
--- src/contents.rt:127:9
 get-requires : tie.Need-get-requires
 get-requires c κs = search needs
 
--- src/contents.rt:128:26
 get-requires-2 : tie.Need-get-requires-2
 get-requires-2 c κs = search needs
 
--- src/contents.rt:128:9
 in-range-requires : tie.Need-in-range-requires
 in-range-requires c κs = search needs
 
--- src/contents.rt:129:9
 returns : tie.Need-returns
-returns c = ?
+returns c =
+    let run = c .before .before in
+    out-of-range _ _ _ _ (run .get2 .ensures) (run .before .get .ensures) (sym (c .before .in-range .ensures) ∙ not-true _ (c .if1 .taken))
 
--- src/contents.rt:131:9
 well-formed-requires : tie.Need-well-formed-requires
 well-formed-requires c κs = search needs
 
--- src/contents.rt:132:9
 returns-2 : tie.Need-returns-2
-returns-2 c = ?
+returns-2 c =
+    let range = c .before .before in
+    let run = range .before .before in
+    malformed _ _ _ _ (run .get2 .ensures) (run .before .get .ensures) (sym (range .before .in-range .ensures) ∙ not-false _ (range .if1 .left))
+    _ (c .before .well-formed .ensures) (not-true _ (c .if2 .taken))
 
--- src/contents.rt:134:30
 count-requires : tie.Need-count-requires
 count-requires c κs = search needs
 
--- src/contents.rt:134:9
 all-tickets-requires : tie.Need-all-tickets-requires
-all-tickets-requires c κs = ?
+all-tickets-requires c κs =
+    let h = formed-length _ (sym (c .before .before .well-formed .ensures) ∙ not-false _ (c .before .if2 .left)) in
+    omega (arith, h)
 
--- src/contents.rt:135:9
 returns-3 : tie.Need-returns-3
-returns-3 c = ?
+returns-3 c =
+    let form = c .before .before .before in
+    let range = form .before .before in
+    let run = range .before .before in
+    no-ticket _ _ _ _ (run .get2 .ensures) (run .before .get .ensures) (sym (range .before .in-range .ensures) ∙ not-false _ (range .if1 .left))
+    _ (form .before .well-formed .ensures) (not-false _ (form .if2 .left)) _ (c .before .before .count .ensures .0) _ (c .before .all-tickets .ensures)
+    (not-true _ (c .if3 .taken))
 
--- src/contents.rt:123:1
 returns-4 : tie.Need-returns-4
-returns-4 c = ?
+returns-4 c =
+    let form = c .before .before .before in
+    let range = form .before .before in
+    let run = range .before .before in
+    accepted _ _ _ _ (run .get2 .ensures) (run .before .get .ensures) (sym (range .before .in-range .ensures) ∙ not-false _ (range .if1 .left))
+    _ (form .before .well-formed .ensures) (not-false _ (form .if2 .left)) _ (c .before .before .count .ensures .0) _ (c .before .all-tickets .ensures)
+    (not-false _ (c .if3 .left))
 
 pub test-bytes-spec : {M : Type 1} → statement M
 test-bytes-spec =

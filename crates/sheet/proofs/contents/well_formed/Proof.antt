@@ -1,52 +1,51 @@
+-- `sheet::contents::well_formed` meets its contract: one law for each way out.
+-- Assumes nothing.
 use borrow.Author.Needs.{needs}
+use borrow.Author.Tests.{not-true, not-false}
+use Rattle.sheet.proofs.Testing.{other-length, head-not-zero, entry-not-zero, by-contents}
 use Rattle.sheet.proofs.contents.well_formed.Statement.{statement}
 use Rattle.sheet.proofs.contents.well_formed.Tie as tie
-use Rattle.sheet.proofs.contents.well_formed.Reads as reads
-use Rattle.sheet.proofs.contents.well_formed.Lts as lts
-use Rattle.sheet.proofs.contents.ascending.Reads as ascending-reads
-use Rattle.sheet.proofs.contents.count.Reads as count-reads
-use Rattle.sheet.proofs.contents.zero_bytes.Reads as zero-bytes-reads
-use Rattle.words.proofs.get.Reads as get-reads
 
--- src/contents.rt:94:9
 count-requires : tie.Need-count-requires
 count-requires c κs = search needs
 
--- src/contents.rt:95:24
 mul-if1 : tie.Need-mul-if1
 mul-if1 c = search needs
 
--- src/contents.rt:95:19
 add-if1 : tie.Need-add-if1
 add-if1 c = search needs
 
--- src/contents.rt:96:9
 returns : tie.Need-returns
-returns c = ?
+returns c = other-length _ _ (c .before .count .ensures .0) (c .if1 .taken)
 
--- src/contents.rt:98:8
 get-requires : tie.Need-get-requires
 get-requires c κs = search needs
 
--- src/contents.rt:99:9
 returns-2 : tie.Need-returns-2
-returns-2 c = ?
+returns-2 c =
+    let size = c .before .before in
+    head-not-zero _ _ (size .before .count .ensures .0) (size .if1 .left) _ (c .before .get .ensures) (c .if2 .taken)
 
--- src/contents.rt:101:9
 zero-bytes-requires : tie.Need-zero-bytes-requires
 zero-bytes-requires c κs = search needs
 
--- src/contents.rt:102:9
 returns-3 : tie.Need-returns-3
-returns-3 c = ?
+returns-3 c =
+    let head = c .before .before in
+    let size = head .before .before in
+    entry-not-zero _ _ (size .before .count .ensures .0) (size .if1 .left) _ (head .before .get .ensures) (head .if2 .left)
+    _ (c .before .zero-bytes .ensures) (not-true _ (c .if3 .taken))
 
--- src/contents.rt:104:5
 ascending-requires : tie.Need-ascending-requires
 ascending-requires c κs = search needs
 
--- src/contents.rt:90:1
 returns-4 : tie.Need-returns-4
-returns-4 c = ?
+returns-4 c =
+    let zeros = c .before in
+    let head = zeros .before .before in
+    let size = head .before .before in
+    by-contents _ _ (size .before .count .ensures .0) (size .if1 .left) _ (head .before .get .ensures) (head .if2 .left)
+    _ (zeros .before .zero-bytes .ensures) (not-false _ (zeros .if3 .left)) _ (c .ascending .ensures)
 
 pub well-formed-spec : {M : Type 1} → statement M
 well-formed-spec =

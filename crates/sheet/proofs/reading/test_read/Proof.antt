@@ -1,67 +1,70 @@
+-- `sheet::reading::test_read` meets its contract: one law for each way out.
+-- Assumes nothing.
 use borrow.Author.Needs.{needs}
+use Rattle.sheet.proofs.Testing.{read-short, read-long, list-short, sums-short, read-refused, read-accepted}
 use Rattle.sheet.proofs.reading.test_read.Statement.{statement}
 use Rattle.sheet.proofs.reading.test_read.Tie as tie
-use Rattle.sheet.proofs.reading.test_read.Reads as reads
-use Rattle.sheet.proofs.reading.test_read.Lts as lts
-use Rattle.sheet.proofs.contents.count.Reads as count-reads
-use Rattle.sheet.proofs.contents.sheet_most.Reads as sheet-most-reads
-use Rattle.sheet.proofs.contents.test_bytes.Reads as test-bytes-reads
 
--- src/reading.rt:21:9
 returns : tie.Need-returns
-returns c = ?
+returns c = read-short _ _ _ _ (c .if1 .taken)
 
--- src/reading.rt:23:8
 sheet-most-requires : tie.Need-sheet-most-requires
 sheet-most-requires c κs = search needs
 
--- src/reading.rt:24:9
 returns-2 : tie.Need-returns-2
-returns-2 c = ?
+returns-2 c = read-long _ _ _ _ (c .before .before .if1 .left) _ (c .before .sheet-most .ensures) (c .if2 .taken)
 
--- src/reading.rt:26:9
 count-requires : tie.Need-count-requires
 count-requires c κs = search needs
 
--- src/reading.rt:27:21
 mul-if3 : tie.Need-mul-if3
 mul-if3 c = search needs
 
--- src/reading.rt:28:9
 returns-3 : tie.Need-returns-3
-returns-3 c = ?
+returns-3 c =
+    let size = c .before .before in
+    list-short _ _ _ _ (size .before .before .if1 .left) _ (size .before .sheet-most .ensures) (size .if2 .left) _ (c .before .count .ensures .0)
+    (c .if3 .taken)
 
--- src/reading.rt:30:21
 mul-if4 : tie.Need-mul-if4
 mul-if4 c = search needs
 
--- src/reading.rt:31:9
 returns-4 : tie.Need-returns-4
-returns-4 c = ?
+returns-4 c =
+    let counted = c .before .before in
+    let size = counted .before in
+    sums-short _ _ _ _ (size .before .before .if1 .left) _ (size .before .sheet-most .ensures) (size .if2 .left) _ (counted .count .ensures .0)
+    (c .before .if3 .left) (c .if4 .taken)
 
--- src/reading.rt:33:11
 test-bytes-requires : tie.Need-test-bytes-requires
 test-bytes-requires c κs = search needs
 
--- src/reading.rt:34:49
 enum-told : tie.Need-enum-told
 enum-told c = search needs
 
--- src/reading.rt:34:49
 cast-t16 : tie.Need-cast-t16
 cast-t16 c = search needs
 
--- src/reading.rt:35:25
 enum-known-r : tie.Need-enum-known-r
 enum-known-r c = search needs
 
--- src/reading.rt:17:1
 returns-5 : tie.Need-returns-5
-returns-5 c = ?
+returns-5 c =
+    let tested = c .before .before in
+    let room = tested .before in
+    let counted = room .before .before in
+    let size = counted .before in
+    read-accepted _ _ _ _ (size .before .before .if1 .left) _ (size .before .sheet-most .ensures) (size .if2 .left) _ (counted .count .ensures .0)
+    (room .before .if3 .left) (room .if4 .left) _ (tested .test-bytes .ensures) _ (c .enum-told .given .1)
 
--- src/reading.rt:17:1
 returns-6 : tie.Need-returns-6
-returns-6 c = ?
+returns-6 c =
+    let tested = c .before .before .before in
+    let room = tested .before in
+    let counted = room .before .before in
+    let size = counted .before in
+    read-refused _ _ _ _ (size .before .before .if1 .left) _ (size .before .sheet-most .ensures) (size .if2 .left) _ (counted .count .ensures .0)
+    (room .before .if3 .left) (room .if4 .left) _ (tested .test-bytes .ensures) _ (c .before .r .given .1)
 
 pub test-read-spec : {M : Type 1} → statement M
 test-read-spec =
