@@ -4,3 +4,4 @@ pub mod Sheets
 pub mod RoundTrip
 pub mod Each
 pub mod Testing
+pub mod Over

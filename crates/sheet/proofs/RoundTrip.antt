@@ -79,7 +79,7 @@ of-taken F p C list out t =
 
 -- ---- lengths
 
-length-bodies : (ts : List Entry) → length (bodiesOf ts) ≡ 16 * length ts
+pub length-bodies : (ts : List Entry) → length (bodiesOf ts) ≡ 16 * length ts
 unfolding bodiesOf bytesOf
 length-bodies [] = refl
 length-bodies (t ∷ ts) = let h = length-bodies ts in omega (arith, h)
@@ -92,7 +92,7 @@ length-sheet p C ts =
     let a = length-append (contentsOf ts) (bodiesOf ts) in
     omega (arith, a, b, c)
 
-length-list : (ts : List Entry) → length (listOf ts) ≡ 2 * length ts
+pub length-list : (ts : List Entry) → length (listOf ts) ≡ 2 * length ts
 unfolding listOf bytesOf
 length-list [] = refl
 length-list (t ∷ ts) = let h = length-list ts in omega (arith, h)

@@ -4,12 +4,13 @@ use mathlib.Core.Path.{_≡_, refl, sym, ap, _∙_}
 use mathlib.Core.Bool.{Bool, true, false, not, _&&_, _||_}
 use mathlib.Core.List.{List}
 use Prim.Native.Nat.{ℕ, suc, _+_, _*_, _<_, _≤_}
-use borrow.Author.Tests.{eqb-true, eq-eqb, ne-eqb, lt-ltb, le-ltb, not-false}
+use native.Mathlib.Omega.{arith}
+use borrow.Author.Tests.{eqb-true, eq-eqb, ne-eqb, ltb-false, lt-ltb, le-ltb, not-false}
 use lib.Dec.{eqb, ltb}
 use lib.IntN.{pos, negsuc}
 use lib.ListN.{length, getD}
 use Rattle.algebra.specs.Test.{allBelow}
-use Rattle.algebra.proofs.Booleans.{and-left}
+use Rattle.algebra.proofs.Booleans.{and-left, neither}
 use Rattle.words.specs.Bytes.{field}
 use Rattle.run.specs.Refusal.{refusal, answer}
 use Rattle.run.specs.Run.{Limits, inRange}
@@ -17,10 +18,11 @@ use Rattle.run.specs.Answers.{answerOf}
 use Rattle.run.specs.declared.Refusal.{Refusal}
 use Rattle.run.specs.declared.Answer.{Answer}
 use Rattle.run.specs.declared.Answer.the-variants.{Finished, Refused}
-use Rattle.run.proofs.Answering.{skipped, refused, finished, was-finished, was-number}
-use Rattle.sheet.specs.Sheet.{sheetMost, sheetPos, sheetBlocks, sheetCount, entriesFrom, entries, allTickets, ascending, wellFormed}
+use Rattle.run.proofs.Answering.{passes, skipped, refused, finished, changed, was-finished, was-number, was-refused}
+use Rattle.ledger.specs.Plain.{Entry}
+use Rattle.sheet.specs.Sheet.{sheetMost, sheetPos, sheetBlocks, sheetCount, entriesFrom, entries, allTickets, ascending, wellFormed, listOf, bodiesOf}
 use Rattle.sheet.specs.Tests.{byteTests}
-use Rattle.sheet.specs.Calls.{readRefusal, readAnswer}
+use Rattle.sheet.specs.Calls.{over, readRefusal, readAnswer, readList, readSums}
 
 -- ---- the form
 
@@ -107,3 +109,53 @@ module _ (lim : Limits) (s list sums : List ℕ) where
           pub read-accepted : (v : ℕ) → a ≡ Finished v → pos e ≡ readAnswer lim s list sums
           unfolding readAnswer
           read-accepted v f = ap pos counted ∙ finished _ (sheetCount s) (by-bytes ∙ was-finished a v _ 0 f tested .0)
+
+-- ---- after the tests, by what they answered
+
+-- what is known of the buffers where reading is not refused and answers v
+pub record Readable (s list sums : List ℕ) (v : ℕ) : Type 0 where
+  pub count : v ≡ sheetCount s
+  pub size : 16 + 20 * v ≤ length s
+  pub list-room : 2 * v ≤ length list
+  pub sums-room : 16 * v ≤ length sums
+
+readable : (lim : Limits) (s list sums : List ℕ) (v : ℕ) → readRefusal lim s list sums ≡ 0 → v ≡ sheetCount s → Readable s list sums v
+unfolding readRefusal
+readable lim s list sums v e count =
+    let a = passes 0 _ _ e in
+    let f = passes 2 _ _ (passes 1 _ _ (a .1) .1) in
+    let d = neither (ltb (length s) 16 || ltb (sheetMost lim) (length s) || ltb (length list) (2 * sheetCount s)) _ (a .0) in
+    let g = neither (ltb (length s) 16 || ltb (sheetMost lim) (length s)) _ (d .0) in
+    let l = formed-length s (not-false _ (f .0)) in
+    record {
+      count = count;
+      size = omega (arith, l, count);
+      list-room = omega (arith, ltb-false (length list) (2 * sheetCount s) (g .1), count);
+      sums-room = omega (arith, ltb-false (length sums) (16 * sheetCount s) (d .1), count);
+    }
+
+module _ (lim : Limits) (s list sums : List ℕ) (a : Answer) (tested : answerOf a ≡ readAnswer lim s list sums) where
+  module _ (v : ℕ) (f : a ≡ Finished v) where
+    number-zero : (readRefusal lim s list sums ≡ 0) × (v ≡ sheetCount s)
+    unfolding readAnswer
+    number-zero = was-finished a v _ _ f tested
+
+    pub none-applied : Readable s list sums v
+    none-applied = readable lim s list sums v (number-zero .0) (number-zero .1)
+
+    pub read-done : (l m : List ℕ) → l ≡ over (listOf (entriesFrom s 0 v)) list → m ≡ over (bodiesOf (entriesFrom s 0 v)) sums
+        → (pos v ≡ readAnswer lim s list sums) × ((l ≡ readList lim s list sums) × (m ≡ readSums lim s list sums))
+    unfolding readList readSums entries
+    read-done l m el em =
+        let z = number-zero .0 in
+        let all = ap (entriesFrom s 0) (number-zero .1) in (
+          ap answerOf (sym f) ∙ tested,
+          (el ∙ ap (λ (ts : List Entry). over (listOf ts) list) all ∙ changed _ _ list z,
+          em ∙ ap (λ (ts : List Entry). over (bodiesOf ts) sums) all ∙ changed _ _ sums z),
+        )
+
+  pub not-read : (r : Refusal) → a ≡ Refused r
+      → (answerOf (Refused r) ≡ readAnswer lim s list sums) × ((list ≡ readList lim s list sums) × (sums ≡ readSums lim s list sums))
+  unfolding readAnswer readList readSums
+  not-read r f =
+      (ap answerOf (sym f) ∙ tested, (was-refused a r _ (sheetCount s) _ list f tested, was-refused a r _ (sheetCount s) _ sums f tested))
