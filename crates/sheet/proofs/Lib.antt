@@ -5,3 +5,5 @@ pub mod RoundTrip
 pub mod Each
 pub mod Testing
 pub mod Over
+pub mod Admitting
+pub mod PostTests

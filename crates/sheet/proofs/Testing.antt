@@ -150,8 +150,10 @@ module _ (lim : Limits) (s list sums : List ℕ) (a : Answer) (tested : answerOf
         let z = number-zero .0 in
         let all = ap (entriesFrom s 0) (number-zero .1) in (
           ap answerOf (sym f) ∙ tested,
-          (el ∙ ap (λ (ts : List Entry). over (listOf ts) list) all ∙ changed _ _ list z,
-          em ∙ ap (λ (ts : List Entry). over (bodiesOf ts) sums) all ∙ changed _ _ sums z),
+          (
+            el ∙ ap (λ (ts : List Entry). over (listOf ts) list) all ∙ changed _ _ list z,
+            em ∙ ap (λ (ts : List Entry). over (bodiesOf ts) sums) all ∙ changed _ _ sums z,
+          ),
         )
 
   pub not-read : (r : Refusal) → a ≡ Refused r

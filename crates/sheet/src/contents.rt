@@ -2,7 +2,6 @@
 use run::Answer;
 use run::Refusal;
 use series::Series;
-
 ghost use mathlib.Core.Path.{_≡_};
 ghost use Prim.Native.Nat.{_+_, _*_, _≤_, _<_};
 ghost use lib.Dec.{eqb};

@@ -3,27 +3,30 @@ use crate::contents;
 use run::Answer;
 use run::Refusal;
 use series::Series;
-
 ghost use mathlib.Core.Path.{_≡_};
-ghost use mathlib.Core.Bool.{true, not};
+ghost use mathlib.Core.Bool.{true};
 ghost use mathlib.Core.List.{foldl};
 ghost use Prim.Native.Nat.{_+_, _*_, _≤_};
 ghost use lib.ListN.{length};
 ghost use Rattle.series.specs.Names.{formulaOf};
 ghost use Rattle.run.specs.Run.{limitsOf};
 ghost use Rattle.run.specs.Answers.{answerOf};
-ghost use Rattle.ledger.specs.Ledger.{ledgerSize, blocksIn, markIn, viewOf};
-ghost use Rattle.sheet.specs.Sheet.{entriesFrom, entries, every, allTickets};
-ghost use Rattle.sheet.specs.Calls.{enterEntry, sheetRefusal, sheetAnswer, sheetBytes};
+ghost use Rattle.sheet.specs.Sheet.{sheetLength, sheetCount, entriesFrom, entries, every, ascending};
+ghost use Rattle.sheet.specs.Tests.{inside, unset, enterable};
+ghost use Rattle.sheet.specs.Calls.{enterEntry, sheetAnswer, sheetBytes};
 
-// Whether none of e entries, which are tickets of the ledger's run, is marked.
-pub fn none_marked(f: Series, ledger: &[u8], s: &[u8], e: usize) -> bool
-    requires { ⌜ (length (now ledger) ≡ ledgerSize (limitsOf (formulaOf f))) × (blocksIn (now ledger) ≤ 256) × (16 + 4 * e ≤ length (now s)) × (allTickets (limitsOf (formulaOf f)) (blocksIn (now ledger)) (entriesFrom (now s) 0 e) ≡ true) ⌝ }
-    ensures { λ r. ⌜ r ≡ every (λ t. not (markIn (limitsOf (formulaOf f)) (now (ledger .entry)) (t .row) (t .block))) (entriesFrom (now (s .entry)) 0 e) ⌝ }
+// Whether none of e entries, whose marks' bytes are all in the ledger, has its bit set.
+pub fn none_marked(ledger: &[u8], s: &[u8], e: usize) -> bool
+    requires { ⌜ (16 + 4 * e ≤ length (now s)) × (every (inside (now ledger)) (entriesFrom (now s) 0 e) ≡ true) ⌝ }
+    ensures { λ r. ⌜ r ≡ every (unset (now (ledger .entry))) (entriesFrom (now (s .entry)) 0 e) ⌝ }
 {
     let mut i = 0;
     while i < e {
-        if ledger::bit_set(ledger, contents::row(s, i) as usize, contents::block(s, i) as usize) {
+        if ledger::bit_set(
+            ledger,
+            contents::row(s, i) as usize,
+            contents::block(s, i) as usize,
+        ) {
             return false;
         }
         i += 1;
@@ -53,22 +56,27 @@ pub fn test_sheet(f: Series, ledger: &[u8], s: &[u8]) -> Answer
     if !ledger::same_run(ledger, words::get(s, 0, 8), words::get(s, 8, 2)) {
         return Answer::Refused(Refusal::OtherRun);
     }
-    if !none_marked(f, ledger, s, contents::count(s)) {
+    if !none_marked(ledger, s, contents::count(s)) {
         return Answer::Refused(Refusal::Marked);
     }
     Answer::Finished(0)
 }
 
-// Enters every ticket of a sheet that nothing refuses, in order.
-pub fn enter_all(f: Series, ledger: &mut [u8], s: &[u8])
-    requires { ⌜ sheetRefusal (limitsOf (formulaOf f)) (viewOf (limitsOf (formulaOf f)) (now ledger)) (now s) ≡ 0 ⌝ }
+// Enters every ticket of a sheet, in order. They ascend, so no ticket sets the bit of another.
+pub fn enter_all(ledger: &mut [u8], s: &[u8])
+    requires { ⌜ (length (now s) ≡ sheetLength (sheetCount (now s))) × (ascending (entries (now s)) ≡ true) × (every (enterable (now ledger)) (entries (now s)) ≡ true) ⌝ }
     ensures { λ _. ⌜ now (ledger .exit) ≡ foldl enterEntry (now (ledger .entry)) (entries (now (s .entry))) ⌝ }
 {
     let e = contents::count(s);
     let mut i = 0;
     while i < e {
         let sum = words::get_wide(s, 16 + 4 * e + 16 * i);
-        ledger::enter(ledger, contents::row(s, i) as usize, contents::block(s, i) as usize, sum);
+        ledger::enter(
+            ledger,
+            contents::row(s, i) as usize,
+            contents::block(s, i) as usize,
+            sum,
+        );
         i += 1;
     }
 }
@@ -80,7 +88,7 @@ pub fn post(f: Series, ledger: &mut [u8], s: &[u8]) -> Answer
 {
     match test_sheet(f, ledger, s) {
         Answer::Finished(_) => {
-            enter_all(f, ledger, s);
+            enter_all(ledger, s);
             Answer::Finished(0)
         }
         Answer::Refused(r) => Answer::Refused(r),

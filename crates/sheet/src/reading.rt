@@ -3,7 +3,6 @@ use crate::contents;
 use run::Answer;
 use run::Refusal;
 use series::Series;
-
 ghost use mathlib.Core.Path.{_≡_};
 ghost use Prim.Native.Nat.{_+_, _*_, _≤_};
 ghost use lib.ListN.{length};

@@ -65,7 +65,7 @@ loop-again c =
     let read = c .before .before in (
       omega arith,
       next _ _ _ _ _ _ _ (c .before .is-ticket .ensures) (read .before .row .ensures .0) (read .block .ensures .0)
-      (not-false _ (c .if1 .left)) (read .before .before .before .loop .inv .1),
+          (not-false _ (c .if1 .left)) (read .before .before .before .loop .inv .1),
     )
 
 returns-2 : tie.Need-returns-2 Inv-loop μ-loop
