@@ -32,7 +32,17 @@ pub fn inverse(n: u64) -> u64
     refine(n, x3)
 }
 
-// Algorithm 3 with both factors x. mu is - 1 / n modulo 2^64, so the lower words of x * x and q * n add up to 0 or to 2^64.
+// a + b, modulo n. `room` does not wait for b, which ends the longest chain of a squaring.
+pub fn sum(a: u64, b: u64, n: u64) -> u64
+    requires { ⌜ (a ≤ n) × (b < n) ⌝ }
+    ensures { λ r. ⌜ r ≡ (a + b) % n ⌝ }
+{
+    let room = n - a;
+    if b < room { a + b } else { b - room }
+}
+
+// Algorithm 3 with both factors x. As mu is - 1 / n, the lower words of x * x and q * n add up to 0 or to 2^64:
+// they carry 1, except where both are 0.
 pub fn square(x: MontgomeryResidue, n: u64, mu: u64) -> MontgomeryResidue
     requires { ⌜ (x .0 < n) × Modulus n mu ⌝ }
     ensures { λ r. ⌜ (r .0 < n) × (r .0 * 2 ^ 64 % n ≡ x .0 * x .0 % n) ⌝ }
@@ -40,25 +50,16 @@ pub fn square(x: MontgomeryResidue, n: u64, mu: u64) -> MontgomeryResidue
     let lo = words::wrapping_mul(x.0, x.0);
     let hi = words::mul_high(x.0, x.0);
     let q = words::wrapping_mul(lo, mu);
-    let c = hi + words::mul_high(q, n) + (lo != 0) as u64;
-    if c < n {
-        MontgomeryResidue(c)
-    } else {
-        MontgomeryResidue(c - n)
-    }
+    let carried = hi + (lo != 0) as u64;
+    MontgomeryResidue(sum(carried, words::mul_high(q, n), n))
 }
 
 // Twice x, modulo n.
 pub fn double(x: MontgomeryResidue, n: u64) -> MontgomeryResidue
-    requires { ⌜ (x .0 < n) × (n < 2 ^ 63) ⌝ }
+    requires { ⌜ x .0 < n ⌝ }
     ensures { λ r. ⌜ r .0 ≡ 2 * x .0 % n ⌝ }
 {
-    let y = x.0 + x.0;
-    if y < n {
-        MontgomeryResidue(y)
-    } else {
-        MontgomeryResidue(y - n)
-    }
+    MontgomeryResidue(sum(x.0, x.0, n))
 }
 
 // 2 in Montgomery form: 2^65 modulo n, by way of 2^64 - n, which fits a word.
@@ -97,16 +98,19 @@ pub fn residue_of_power(e: u64, n: u64, mu: u64) -> Residue
 }
 
 // Algorithm 7: the whole part of t / n modulo 2^128, for each multiple t of 2^128 whose residue is r.
-pub fn divide(r: Residue, n: u64, inv: u64) -> Wide
-    requires { ⌜ (r .0 < n) × (n * inv % 2 ^ 64 ≡ 1) ⌝ }
+// It is stated for 1 / n: with mu = - 1 / n both of its products change their sign.
+pub fn divide(r: Residue, n: u64, mu: u64) -> Wide
+    requires { ⌜ (r .0 < n) × Modulus n mu ⌝ }
     ensures { λ q. ⌜ ((t : ℕ) → t % 2 ^ 128 ≡ 0 → t % n ≡ r .0 → joined (q .hi) (q .lo) ≡ t / n % 2 ^ 128) ⌝ }
 {
     if r.0 == 0 {
         return Wide { hi: 0, lo: 0 };
     }
-    let lo = words::wrapping_mul(std::num::wrapping_sub_u64(0, r.0), inv);
-    let hi = words::wrapping_mul(u64::MAX - words::mul_high(n, lo), inv);
-    Wide { hi, lo }
+    let lo = words::wrapping_mul(r.0, mu);
+    Wide {
+        hi: words::wrapping_mul(words::mul_high(n, lo) + 1, mu),
+        lo,
+    }
 }
 
 // The whole part of 2^e / n, modulo 2^128, where 2^128 divides 2^e.
@@ -114,9 +118,8 @@ pub fn quotient_of_power(e: u64, n: u64) -> Wide
     requires { ⌜ (n % 2 ≡ 1) × (n < 2 ^ 63) × (128 ≤ e) ⌝ }
     ensures { λ q. ⌜ joined (q .hi) (q .lo) ≡ 2 ^ e / n % 2 ^ 128 ⌝ }
 {
-    let inv = inverse(n);
-    let r = residue_of_power(e, n, std::num::wrapping_sub_u64(0, inv));
-    divide(r, n, inv)
+    let mu = std::num::wrapping_sub_u64(0, inverse(n));
+    divide(residue_of_power(e, n, mu), n, mu)
 }
 
 // The whole part of 2^e / n, modulo 2^128, by long division a bit at a time: for the few small e.

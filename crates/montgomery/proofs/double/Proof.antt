@@ -1,27 +1,20 @@
--- `montgomery::double` meets its contract: twice x is below 2 * n.
+-- `montgomery::double` meets its contract: twice x is x + x.
 -- Assumes nothing.
-use mathlib.Core.Path.{_≡_}
-use Prim.Native.Nat.{ℕ, _+_, _*_, _-_, _%_, _≤_, _<_}
+use mathlib.Core.Path.{_≡_, ap, _∙_}
+use Prim.Native.Nat.{ℕ, _+_, _*_, _%_}
 use native.Mathlib.Omega.{arith}
 use borrow.Author.Needs.{needs}
-use Rattle.algebra.proofs.Cong.{is-%}
 use Rattle.montgomery.proofs.double.Statement.{statement}
 use Rattle.montgomery.proofs.double.Tie as tie
 
-kept : (n x : ℕ) → x + x < n → x + x ≡ 2 * x % n
-kept n x h = is-% h (record { k = 0; j = 0; eq = omega arith })
+law : (x n r : ℕ) → r ≡ (x + x) % n → r ≡ 2 * x % n
+law x n r e = let twice : x + x ≡ 2 * x = omega arith in e ∙ ap (λ t. t % n) twice
 
-less : (n x : ℕ) → x < n → n ≤ x + x → x + x - n ≡ 2 * x % n
-less n x l h = is-% (omega arith) (record { k = 1; j = 0; eq = omega arith })
-
-add-y : tie.Need-add-y
-add-y c = search needs
+sum-requires : tie.Need-sum-requires
+sum-requires c κs = search needs
 
 returns : tie.Need-returns
-returns c = kept _ _ (c .if1 .taken)
-
-returns-2 : tie.Need-returns-2
-returns-2 c = less _ _ (c .before .before .pre .0) (c .if1 .left)
+returns c = law _ _ _ (c .sum .ensures)
 
 pub double-spec : {M : Type 1} → statement M
-double-spec = tie.close (tie.spec add-y returns returns-2)
+double-spec = tie.close (tie.spec sum-requires returns)

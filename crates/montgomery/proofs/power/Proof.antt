@@ -2,7 +2,7 @@
 -- Assumes nothing.
 use mathlib.Core.Path.{_≡_, refl, sym, ap, _∙_}
 use Prim.Native.Nat.{ℕ, zero, suc, _+_, _*_, _-_, _/_, _%_, _^_, _≤_, _<_}
-use native.Mathlib.Nat.{div-add-mod', div-one, mod-lt, pow-suc}
+use native.Mathlib.Nat.{div-one, mod-lt, pow-suc}
 use native.Mathlib.Omega.{arith}
 use borrow.Author.Needs.{needs}
 use lib.Arith.{digits-div}
@@ -11,6 +11,7 @@ use lib.Count.{leadingZeros, leading-top}
 use Rattle.algebra.proofs.Cong.{Mod, to-%, of-%, is-%, wrapped}
 use Rattle.algebra.proofs.Power.{squared, doubled, next-bit}
 use Rattle.montgomery.specs.Modulus.{Modulus, montgomery}
+use Rattle.montgomery.proofs.Negated.{unit}
 use Rattle.montgomery.proofs.power.Statement.{statement}
 use Rattle.montgomery.proofs.power.Tie as tie
 
@@ -36,10 +37,6 @@ top e h l =
         let rest : 1 * 2 ^ j + (e - 2 ^ j) ≡ e = omega arith in
         let small : e - 2 ^ j < 2 ^ j = omega (arith, pow-suc 2 j) in
         rw rest at (digits-div 1 small)
-
--- 2^64 has an inverse modulo n
-unit : (W n μ : ℕ) → (n * μ + 1) % W ≡ 0 → (i : ℕ) × Mod n (W * i) 1
-unit W n μ e = ((n * μ + 1) / W, record { k = 0; j = μ; eq = omega (arith, div-add-mod' (n * μ + 1) W) })
 
 -- a turn squares, and doubles where the next bit of e is set
 module _ (e n μ i x s : ℕ) (m : Modulus n μ) (l : 0 < i) (p : x ≡ montgomery n (2 ^ (e / 2 ^ i))) (q : s * 2 ^ 64 % n ≡ x * x % n) where
@@ -88,7 +85,7 @@ shr-if1 : tie.Need-shr-if1 Inv-loop μ-loop
 shr-if1 c = search needs
 
 double-requires : tie.Need-double-requires Inv-loop μ-loop
-double-requires c κs = (c .before .square .ensures .0, c .before .before .before .before .before .pre .1 .small)
+double-requires c κs = c .before .square .ensures .0
 
 loop-less : tie.Need-loop-less Inv-loop μ-loop
 loop-less c = omega arith

@@ -43,7 +43,7 @@ residue-of-power-requires c κs =
 divide-requires : tie.Need-divide-requires
 divide-requires c κs =
     let i = c .before .before in
-    (below _ _ _ (i .before .pre .0) (c .residue-of-power .ensures), i .inverse .ensures)
+    (below _ _ _ (i .before .pre .0) (c .residue-of-power .ensures), modulus _ _ _ (i .before .pre .0) (i .before .pre .1) (i .inverse .ensures) (c .before .wrapping-sub-u64 .ensures))
 
 returns : tie.Need-returns
 returns c =

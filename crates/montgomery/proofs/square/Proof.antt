@@ -1,68 +1,56 @@
--- `montgomery::square` meets its contract: the lower words of x * x and q * n cancel, so c * 2^64 is their whole sum, below 2 * n * 2^64.
+-- `montgomery::square` meets its contract: the lower words of x * x and q * n cancel, so the upper words with the carry are their whole sum over 2^64.
 -- Assumes nothing.
 use mathlib.Core.Path.{_≡_, refl, sym, ap, _∙_}
 use mathlib.Core.Bool.{Bool, true, false, not}
-use Prim.Native.Nat.{ℕ, zero, _+_, _*_, _-_, _/_, _%_, _^_, _≤_, _<_}
-use native.Mathlib.Nat.{div-add-mod', mod-lt, le-of-lt, mul-le-mul-left, mul-lt-mul-of-pos-right, lt-of-mul-lt-mul-right}
+use Prim.Native.Nat.{ℕ, zero, _+_, _*_, _/_, _%_, _^_, _≤_, _<_}
+use native.Mathlib.Nat.{div-add-mod', le-trans, le-of-eq, le-of-lt, mod-lt, mul-le-mul-left}
 use native.Mathlib.Omega.{arith}
 use borrow.Author.Needs.{needs}
 use borrow.Author.Tests.{eqb-true, eqb-false, not-true, not-false}
 use lib.Dec.{eqb}
 use mir.Val.{boolByte}
-use Rattle.algebra.proofs.Cong.{Mod, to-%, of-%, rem, wrapped, of-eq, refl-mod, trans, plus, times}
+use Rattle.algebra.proofs.Cong.{Mod, to-%, rem, wrapped, refl-mod, trans, times, plus}
+use Rattle.algebra.proofs.Montgomery.{upper-below}
 use Rattle.montgomery.specs.Modulus.{Modulus}
+use Rattle.montgomery.proofs.Negated.{opposite, upper}
 use Rattle.montgomery.proofs.square.Statement.{statement}
 use Rattle.montgomery.proofs.square.Tie as tie
-
--- in any base W: with q = - lo / n, the lower word of q * n is - lo
-opposite : (W n μ lo q : ℕ) → Mod W (n * μ + 1) 0 → Mod W q (lo * μ) → Mod W (lo + q * n) 0
-opposite W n μ lo q u e =
-    trans (plus (refl-mod lo) (times e (refl-mod n)))
-    (trans (of-eq {b = lo * (n * μ + 1)} (omega arith)) (trans (times (refl-mod lo) u) (of-eq (omega arith))))
 
 -- two words that are opposite add up to 0, if one is 0, and else to 2^64
 carry : (lo l : ℕ) (t : Bool) → not (eqb lo 0) ≡ t → lo < 2 ^ 64 → l < 2 ^ 64 → (lo + l) % 2 ^ 64 ≡ 0 → lo + l ≡ boolByte t * 2 ^ 64
 carry lo l true e a b h = let p = eqb-false lo 0 (not-true (eqb lo 0) e) in omega (arith, p)
 carry lo l false e a b h = let p = eqb-true lo 0 (not-false (eqb lo 0) e) in omega (arith, p)
 
--- what the calls give of c
-record Known (x n c q : ℕ) : Type 0 where
-  below : c < n + n
-  whole : c * 2 ^ 64 ≡ x * x + q * n
-
-known-of : (x n μ lo hi q h : ℕ) (t : Bool) → not (eqb lo 0) ≡ t → x < n → Modulus n μ → lo ≡ x * x % 2 ^ 64 → hi ≡ x * x / 2 ^ 64
-    → q ≡ lo * μ % 2 ^ 64 → h ≡ q * n / 2 ^ 64 → Known x n (hi + h + boolByte t) q
-known-of x n μ lo hi q h t et l m elo ehi eq eh = record { below = below-of; whole = whole-of }
+-- the upper word of x * x, with the carry
+first : (x n hi : ℕ) (t : Bool) → x < n → n < 2 ^ 63 → hi ≡ x * x / 2 ^ 64 → hi + boolByte t ≤ n
+first x n hi t h l e = bit t
   where
+    below : hi < n
+    below = upper-below (2 ^ 64) n hi (x * x % 2 ^ 64) x (omega arith) (omega arith)
+        (le-trans (le-of-eq (ap (λ y. y * 2 ^ 64 + x * x % 2 ^ 64) e ∙ div-add-mod' (x * x) (2 ^ 64))) (mul-le-mul-left x (le-of-lt h)))
+
+    bit : (t : Bool) → hi + boolByte t ≤ n
+    bit true = omega (arith, below)
+    bit false = omega (arith, below)
+
+fit : {n μ a : ℕ} → Modulus n μ → a ≤ n → a < 2 ^ 64
+fit m l = let s = m .small in omega arith
+
+second : (n q h : ℕ) → q < 2 ^ 64 → 0 < n → h ≡ q * n / 2 ^ 64 → h < n
+second n q h l p e = rw e (upper (2 ^ 64) n q l p)
+
+law : (x n μ lo hi q h r : ℕ) (t : Bool) → not (eqb lo 0) ≡ t → Modulus n μ → lo ≡ x * x % 2 ^ 64 → hi ≡ x * x / 2 ^ 64
+    → q ≡ lo * μ % 2 ^ 64 → h ≡ q * n / 2 ^ 64 → r ≡ (hi + boolByte t + h) % n → (r < n) × (r * 2 ^ 64 % n ≡ x * x % n)
+law x n μ lo hi q h r t et m elo ehi eq eh er = (rw er (mod-lt _ (m .positive)), to-% (trans (times (wrapped n er) (refl-mod (2 ^ 64))) whole))
+  where
+    both : (lo + q * n % 2 ^ 64) % 2 ^ 64 ≡ 0
+    both = to-% {b = 0} (trans (plus (refl-mod lo) (rem (2 ^ 64) (q * n))) (opposite (2 ^ 64) n μ (m .negated) lo q (wrapped (2 ^ 64) eq)))
+
     sum : lo + q * n % 2 ^ 64 ≡ boolByte t * 2 ^ 64
-    sum =
-        carry lo (q * n % 2 ^ 64) t et (omega arith) (omega arith)
-        (to-% (trans (plus (refl-mod lo) (rem (2 ^ 64) (q * n))) (opposite (2 ^ 64) n μ lo q (of-% (2 ^ 64) (n * μ + 1) 0 (m .negated)) (wrapped (2 ^ 64) eq))))
+    sum = carry lo (q * n % 2 ^ 64) t et (omega arith) (omega arith) both
 
-    whole-of : (hi + h + boolByte t) * 2 ^ 64 ≡ x * x + q * n
-    whole-of = omega (arith, sum, div-add-mod' (x * x) (2 ^ 64), div-add-mod' (q * n) (2 ^ 64))
-
-    small : (W : ℕ) → W ≡ 2 ^ 64 → x * x + q * n < (n + n) * W
-    small W e =
-        let s = m .small in
-        let a : x * x ≤ x * W = mul-le-mul-left x (omega arith) in
-        let b : x * W < n * W = mul-lt-mul-of-pos-right l (omega arith) in
-        let d : q * n < W * n = mul-lt-mul-of-pos-right {k = n} (omega arith) (m .positive) in
-        omega (arith, a, b, d)
-
-    below-of : hi + h + boolByte t < n + n
-    below-of = lt-of-mul-lt-mul-right (2 ^ 64) (rw (← whole-of) at (small (2 ^ 64) refl))
-
--- a sum below 2 * n fits a word
-fit : (a b : ℕ) {n μ : ℕ} → a + b < n + n → Modulus n μ → (a < 2 ^ 64) × (a + b < 2 ^ 64)
-fit a b h m = let s = m .small in omega arith
-
--- c less n as often as c holds it
-reduced : (x n c q r e : ℕ) → Known x n c q → r + e * n ≡ c → r * 2 ^ 64 % n ≡ x * x % n
-reduced x n c q r e k p = to-% (record { k = e * 2 ^ 64; j = q; eq = omega (arith, k .whole, ap (λ t. t * 2 ^ 64) p) })
-
-less : {n c : ℕ} → c < n + n → n ≤ c → (c - n < n) × (c - n + 1 * n ≡ c)
-less h l = omega arith
+    whole : Mod n ((hi + boolByte t + h) * 2 ^ 64) (x * x)
+    whole = record { k = 0; j = q; eq = omega (arith, sum, div-add-mod' (x * x) (2 ^ 64), div-add-mod' (q * n) (2 ^ 64)) }
 
 wrapping-mul-requires : tie.Need-wrapping-mul-requires
 wrapping-mul-requires c κs = search needs
@@ -73,35 +61,28 @@ mul-high-requires c κs = search needs
 wrapping-mul-requires-2 : tie.Need-wrapping-mul-requires-2
 wrapping-mul-requires-2 c κs = search needs
 
+cast-carried : tie.Need-cast-carried
+cast-carried c = search needs
+
+add-carried : tie.Need-add-carried
+add-carried c =
+    let s = c .before .before .before in
+    record { fits = fit (s .pre .1) (first _ _ _ (not (eqb (c .before .before .wrapping-mul .result) 0)) (s .pre .0) (s .pre .1 .small) (c .before .mul-high .ensures)) }
+
 mul-high-requires-2 : tie.Need-mul-high-requires-2
 mul-high-requires-2 c κs = search needs
 
-known : (c : tie.After-mul-high2) →
-    let lo = c .before .before .before .wrapping-mul .result in
-    Known (c .before .before .before .before .args .x .0) (c .before .before .before .before .args .n)
-    (c .before .before .mul-high .result + c .mul-high2 .result + boolByte (not (eqb lo 0))) (c .before .wrapping-mul2 .result)
-known c =
+sum-requires : tie.Need-sum-requires
+sum-requires c κs =
     let s = c .before .before .before .before in
-    known-of (s .args .x .0) (s .args .n) (s .args .mu) _ _ _ _ _ refl (s .pre .0) (s .pre .1)
-    (c .before .before .before .wrapping-mul .ensures) (c .before .before .mul-high .ensures) (c .before .wrapping-mul2 .ensures) (c .mul-high2 .ensures)
-
-add-c : tie.Need-add-c
-add-c c = record { fits = fit _ _ (known c .below) (c .before .before .before .before .pre .1) .0 }
-
-cast-c : tie.Need-cast-c
-cast-c c = search needs
-
-add-c-2 : tie.Need-add-c-2
-add-c-2 c = record { fits = fit _ _ (known c .below) (c .before .before .before .before .pre .1) .1 }
+    let h : c .before .wrapping-mul2 .result < 2 ^ 64 = search needs in
+    (first _ _ _ (not (eqb (c .before .before .before .wrapping-mul .result) 0)) (s .pre .0) (s .pre .1 .small) (c .before .before .mul-high .ensures), second _ _ _ h (s .pre .1 .positive) (c .mul-high2 .ensures))
 
 returns : tie.Need-returns
-returns c = (c .if1 .taken, reduced _ _ _ _ _ 0 (known (c .before)) (omega arith))
-
-returns-2 : tie.Need-returns-2
-returns-2 c =
-    let k = known (c .before) in
-    let d = less (k .below) (c .if1 .left) in
-    (d .0, reduced _ _ _ _ _ 1 k (d .1))
+returns c =
+    let s = c .before .before .before .before .before in
+    law (s .args .x .0) (s .args .n) (s .args .mu) _ _ _ _ _ _ refl (s .pre .1)
+    (c .before .before .before .before .wrapping-mul .ensures) (c .before .before .before .mul-high .ensures) (c .before .before .wrapping-mul2 .ensures) (c .before .mul-high2 .ensures) (c .sum .ensures)
 
 pub square-spec : {M : Type 1} → statement M
 square-spec =
@@ -110,9 +91,8 @@ square-spec =
     wrapping-mul-requires
     mul-high-requires
     wrapping-mul-requires-2
+    cast-carried
+    add-carried
     mul-high-requires-2
-    add-c
-    cast-c
-    add-c-2
-    returns
-    returns-2)
+    sum-requires
+    returns)

@@ -26,7 +26,7 @@ rem-t4 : tie.Need-rem-t4
 rem-t4 c = search needs
 
 double-requires : tie.Need-double-requires
-double-requires c κs = (mod-lt _ (c .pre .0), c .pre .1)
+double-requires c κs = mod-lt _ (c .pre .0)
 
 returns : tie.Need-returns
 returns c = law _ _ (c .before .pre .1) (c .double .ensures)
