@@ -6,7 +6,7 @@ ghost use Rattle.words.specs.Words.{joined};
 ghost use Rattle.montgomery.specs.Modulus.{Modulus, montgomery};
 use words::Wide;
 
-// A number below the modulus.
+// A plain residue: a number below the modulus.
 pub struct Residue(pub u64);
 
 // A number below the modulus n that stands for the one that it is 2^64 times, modulo n.
@@ -32,7 +32,7 @@ pub fn inverse(n: u64) -> u64
     refine(n, x3)
 }
 
-// a + b, modulo n. `room` does not wait for b, which ends the longest chain of a squaring.
+// a + b, modulo n. The room that a leaves is known before b, which a squaring has last.
 pub fn sum(a: u64, b: u64, n: u64) -> u64
     requires { ⌜ (a ≤ n) × (b < n) ⌝ }
     ensures { λ r. ⌜ r ≡ (a + b) % n ⌝ }
@@ -98,7 +98,7 @@ pub fn residue_of_power(e: u64, n: u64, mu: u64) -> Residue
 }
 
 // Algorithm 7: the whole part of t / n modulo 2^128, for each multiple t of 2^128 whose residue is r.
-// It is stated for 1 / n: with mu = - 1 / n both of its products change their sign.
+// The paper has 1 / n there; with mu = - 1 / n both products change their sign.
 pub fn divide(r: Residue, n: u64, mu: u64) -> Wide
     requires { ⌜ (r .0 < n) × Modulus n mu ⌝ }
     ensures { λ q. ⌜ ((t : ℕ) → t % 2 ^ 128 ≡ 0 → t % n ≡ r .0 → joined (q .hi) (q .lo) ≡ t / n % 2 ^ 128) ⌝ }

@@ -1,14 +1,14 @@
 -- `montgomery::power` meets its contract: with i bits of e left, x stands for 2 to the power of the bits above them.
 -- Assumes nothing.
-use mathlib.Core.Path.{_≡_, refl, sym, ap, _∙_}
-use Prim.Native.Nat.{ℕ, zero, suc, _+_, _*_, _-_, _/_, _%_, _^_, _≤_, _<_}
+use mathlib.Core.Path.{_≡_}
+use Prim.Native.Nat.{ℕ, suc, _+_, _*_, _-_, _/_, _%_, _^_, _≤_, _<_}
 use native.Mathlib.Nat.{div-one, mod-lt, pow-suc}
 use native.Mathlib.Omega.{arith}
 use borrow.Author.Needs.{needs}
 use lib.Arith.{digits-div}
 use lib.Bits.{bitAnd, and-mask}
 use lib.Count.{leadingZeros, leading-top}
-use Rattle.algebra.proofs.Cong.{Mod, to-%, of-%, is-%, wrapped}
+use Rattle.algebra.proofs.Cong.{Mod, of-%, is-%, wrapped}
 use Rattle.algebra.proofs.Power.{squared, doubled, next-bit}
 use Rattle.montgomery.specs.Modulus.{Modulus, montgomery}
 use Rattle.montgomery.proofs.Negated.{unit}

@@ -1,12 +1,12 @@
 -- `montgomery::quotient_of_power` meets its contract: 2^128 divides 2^e, whose residue is known.
 -- Assumes nothing.
-use mathlib.Core.Path.{_≡_, refl, sym, ap, _∙_}
-use Prim.Native.Nat.{ℕ, zero, _+_, _*_, _-_, _%_, _^_, _≤_, _<_}
+use mathlib.Core.Path.{_≡_, sym, ap, _∙_}
+use Prim.Native.Nat.{ℕ, _+_, _*_, _-_, _%_, _^_, _≤_, _<_}
 use native.Mathlib.Nat.{mod-lt}
 use native.Mathlib.Omega.{arith}
 use borrow.Author.Needs.{needs}
 use lib.Pow.{pow-add}
-use Rattle.algebra.proofs.Cong.{Mod, to-%, of-%, of-eq, refl-mod, symm, trans, plus, times, multiple}
+use Rattle.algebra.proofs.Cong.{to-%, of-%, of-eq, refl-mod, symm, trans, plus, times, multiple}
 use Rattle.montgomery.specs.Modulus.{Modulus}
 use Rattle.montgomery.proofs.quotient_of_power.Statement.{statement}
 use Rattle.montgomery.proofs.quotient_of_power.Tie as tie

@@ -3,7 +3,7 @@
 use mathlib.Core.Path.{_≡_}
 use Prim.Native.Nat.{ℕ, _+_, _*_, _%_, _^_}
 use native.Mathlib.Omega.{arith}
-use Rattle.algebra.proofs.Cong.{Mod, to-%, of-%, wrapped, of-eq, refl-mod, symm, trans, plus, times}
+use Rattle.algebra.proofs.Cong.{to-%, of-%, wrapped, of-eq, refl-mod, symm, trans, plus, times}
 use borrow.Author.Needs.{needs}
 use Rattle.montgomery.proofs.refine.Statement.{statement}
 use Rattle.montgomery.proofs.refine.Tie as tie
