@@ -5,9 +5,17 @@ ghost use Prim.Native.Nat.{_+_, _*_, _/_, _%_, _^_, _<_, _≤_};
 ghost use lib.Dec.{ltb};
 ghost use lib.IntN.{pos, subℕ};
 ghost use lib.ListN.{length, drop};
+ghost use mathlib.Core.Bool.{cond};
+ghost use Prim.Native.Nat.{ℕ};
+ghost use Rattle.algebra.specs.Test.{allBelow};
 ghost use Rattle.words.specs.Words.{joined};
+ghost use Rattle.series.specs.Names.{formulaOf};
+ghost use Rattle.series.specs.Series.{plus, minus};
+ghost use Rattle.ledger.specs.Ledger.{bitIn};
+ghost use Rattle.interval.specs.Interval as definition;
 ghost use Rattle.interval.specs.Interval.{unitAt};
 ghost use Rattle.interval.specs.Digits.{settled, hexDigit, lowDigits};
+use series::Series;
 use words::Wide;
 
 // Whether a is below b.
@@ -86,4 +94,50 @@ pub fn put_digits(out: &mut [u8], x: Wide, d: usize)
         out[i] = hex_digit(digit_at(x, i as u64));
         i += 1;
     }
+}
+
+// How many terms of a run with k terms in every row are charged: the added ones, or the subtracted ones.
+pub fn charges(f: Series, added: bool, k: u64) -> u64
+    requires { ⌜ k ≤ 2 ^ 60 ⌝ }
+    ensures { λ r. ⌜ ((p : ℕ) → r ≡ definition.charges (formulaOf f) (cond added plus minus) p k) ⌝ }
+{
+    match f {
+        Series::Bellard => {
+            let pairs = 7 * (k / 2);
+            if k % 2 == 0 {
+                return pairs;
+            }
+            if added { pairs + 2 } else { pairs + 5 }
+        }
+    }
+}
+
+// Whether the first c blocks of a row are all marked.
+pub fn row_full(s: &[u8], row: usize, c: usize) -> bool
+    requires { ⌜ (64 + 32 * row ≤ length (now s)) × (c ≤ 256) ⌝ }
+    ensures { λ r. ⌜ r ≡ allBelow c (λ block. bitIn (now (s .entry)) row block) ⌝ }
+{
+    let mut block = 0;
+    while block < c {
+        if !ledger::bit_set(s, row, block) {
+            return false;
+        }
+        block += 1;
+    }
+    true
+}
+
+// Whether the first c blocks of every row are marked.
+pub fn rows_full(s: &[u8], rows: usize, c: usize) -> bool
+    requires { ⌜ (32 + 32 * rows ≤ length (now s)) × (c ≤ 256) ⌝ }
+    ensures { λ r. ⌜ r ≡ allBelow rows (λ row. allBelow c (λ block. bitIn (now (s .entry)) row block)) ⌝ }
+{
+    let mut row = 0;
+    while row < rows {
+        if !row_full(s, row, c) {
+            return false;
+        }
+        row += 1;
+    }
+    true
 }
