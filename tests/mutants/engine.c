@@ -1,18 +1,24 @@
 /*
  * A stand-in for the engine, in C: the seven calls by Montgomery arithmetic
- * and early returns, sharing no code with the reference. With MUTANT = 0 it is
- * right; every other number makes it wrong in the one way that WRONG(number)
- * marks. tests/mutants/run.sh shows that the tests pass on the first and fail
- * on each of the others.
+ * and early returns, sharing no code with the reference. It is right unless
+ * the environment variable MUTANT names a number; then it is wrong in the one
+ * way that WRONG(number) marks. tests/mutants/run.sh shows that the tests pass
+ * on the right one and fail on each wrong one.
  */
 #include "bbp.h"
 
+#include <stdlib.h>
 #include <string.h>
 
-#ifndef MUTANT
-#define MUTANT 0
-#endif
-#define WRONG(number) (MUTANT == (number))
+static int mutant(void)
+{
+    static int number = -1;
+    if (number < 0)
+        number = getenv("MUTANT") != NULL ? atoi(getenv("MUTANT")) : 0;
+    return number;
+}
+
+#define WRONG(number) (mutant() == (number))
 
 __extension__ typedef unsigned __int128 u128;
 
@@ -93,7 +99,7 @@ static u128 term(uint64_t p, uint64_t row, uint64_t k)
 {
     uint64_t n = table[row].m * k + table[row].j;
     int64_t e = 4 * (int64_t)(p - !WRONG(7)) + table[row].l - 10 * (int64_t)k + 128;
-    if (e < (WRONG(33) ? 1 : 0))
+    if (e < (WRONG(33) ? 8 : 0))
         return 0;
     if (e < (WRONG(34) ? 127 : 128))
         return ((u128)1 << e) / n;
@@ -143,6 +149,8 @@ int64_t bbp_work(uint64_t p, uint64_t c, uint64_t row, uint64_t block, uint8_t *
         return -2;
     if (WRONG(15))
         row &= 255, block &= 65535;
+    if (WRONG(41))
+        store_sum(sum, 0);
     if (row > 6 || block >= c)
         return -4;
     store_sum(sum, ticket(p, c, row, block));
@@ -335,7 +343,8 @@ static int64_t post_sheet(uint8_t *ledger, const uint8_t *sheet, size_t e)
         if (WRONG(3) && is_marked(ledger, sheet[16 + 4 * i], sheet[18 + 4 * i]))
             return -7;
         mark(ledger, sheet[16 + 4 * i], sheet[18 + 4 * i]);
-        add(ledger, sums + 16 * (WRONG(23) ? 0 : i));
+        if (i == 0 || !WRONG(42))
+            add(ledger, sums + 16 * (WRONG(23) ? 0 : i));
     }
     return 0;
 }
@@ -393,7 +402,7 @@ int64_t bbp_close(const uint8_t *ledger, size_t ledger_len, uint8_t *digits, siz
         return -8;
     uint64_t terms = terms_of(load(ledger, 8)), odd = WRONG(25) ? 0 : terms & 1;
     uint64_t a = 7 * (terms / 2) + 2 * odd, b = 7 * (terms / 2) + 5 * odd;
-    u128 total = load_sum(ledger + 16), low = total - b - 1, high = total + a + (WRONG(29) ? 0 : 1);
+    u128 total = WRONG(43) ? (u128)0x243f6a8885a308d3 << 64 : load_sum(ledger + 16), low = total - b - 1, high = total + a + (WRONG(29) ? 0 : 1);
     if (WRONG(12) && low > total)
         low = 0;
     int d = low > high ? 0 : agreeing_digits(low, high);
