@@ -12,6 +12,7 @@ PREFIX = /usr/local
 P = 1000000
 SEED = 1
 COUNT = 3000
+LONG = 1000000000 10000000000 100000000000
 PROCESSES =
 
 # The calls that the engine has. Their tests are test_CALL.
@@ -71,7 +72,7 @@ published: $(OUT)/published
 # Finished tickets are kept under the checksum of the library that worked them; `clean` leaves them.
 published-long: $(OUT)/farm $(OUT)/published
 	@kept=published/$$(sha256sum $(ENGINE) | cut -c1-16); mkdir -p $$kept; \
-	for p in 1000000000 10000000000 100000000000; do \
+	for p in $(LONG); do \
 		$(OUT)/farm $$p 256 $$kept/$$p $(PROCESSES) >$$kept/$$p.closing && cat $$kept/$$p.closing && \
 		$(OUT)/published - <$$kept/$$p.closing || exit 1; \
 	done

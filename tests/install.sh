@@ -15,6 +15,8 @@ fi
 for example in minimal acceptance; do
     ${CC:-gcc} -std=c99 -Wall -Wextra -Werror -O2 $compile "examples/$example.c" $link ${LDFLAGS:-} -o "$prefix/$example"
 done
+${CXX:-g++} -x c++ -Wall -Wextra -Werror -O2 $compile examples/minimal.c -x none $link ${LDFLAGS:-} -o "$prefix/minimal_cc"
 bash tests/examples.sh "$prefix/minimal" "$prefix/acceptance" >/dev/null
+bash tests/examples.sh "$prefix/minimal_cc" "$prefix/acceptance" >/dev/null
 rm -rf "$prefix"
-echo "install: 2 checks"
+echo "install: 3 checks"

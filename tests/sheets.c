@@ -91,6 +91,8 @@ int damage_sheet(struct sheet *sheet, int kind)
     case 13: return last_row(sheet, (uint8_t)(8 + below(248)));
     case 14: return last_block(sheet, sheet->c);
     case 15: return last_block(sheet, 256 * (1 + below(255)) + below(256));
+    case 16: any_bytes(sheet->bytes, sheet->len); return UNSURE;
+    case 17: any_bytes(sheet->bytes + 16, 4 * sheet->e); return UNSURE;
     default: sheet->bytes[below(16 + 4 * sheet->e)] ^= (uint8_t)(1 << below(8)); return UNSURE;
     }
 }

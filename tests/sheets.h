@@ -18,7 +18,7 @@ struct sheet {
 void prepare_sheet(struct sheet *sheet);
 
 /* Damages as `struct suite` has them, kinds 0 to SHEET_KINDS - 1. */
-enum { SHEET_KINDS = 17 };
+enum { SHEET_KINDS = 19 };
 int damage_sheet(struct sheet *sheet, int kind);
 
 #endif

@@ -41,6 +41,6 @@ int main(int argc, char **argv)
     CHECK(each_term(compare_term) > 200, "vectors.txt has too few terms");
     CHECK(each_count(compare_count) > 10, "vectors.txt has too few counts");
     CHECK(each_block(compare_block) > 20, "vectors.txt has too few blocks");
-    CHECK(each_ticket(compare_ticket) > 200, "vectors.txt has too few tickets");
+    CHECK(each_ticket("ticket", compare_ticket) > 200, "vectors.txt has too few tickets");
     return finish();
 }

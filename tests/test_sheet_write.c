@@ -78,6 +78,7 @@ static int damage(int kind)
     case 10: return last_pair(7, below(256));
     case 11: return last_pair(8 + below(248), below(256));
     case 12: return last_block();
+    case 13: any_bytes(t.list, 2 * t.e); return UNSURE;
     default: t.list[below(2 * t.e + 1)] ^= (uint8_t)(1 << below(8)); return UNSURE;
     }
 }
@@ -143,7 +144,7 @@ static void size_examples(void)
 
 int main(int argc, char **argv)
 {
-    static const struct suite suite = {prepare, damage, 14, compare};
+    static const struct suite suite = {prepare, damage, 15, compare};
     start("sheet_write", argc, argv);
     any_bytes(t.sheet, SHEET_ROOM);
     any_bytes(t.list, LIST_ROOM);

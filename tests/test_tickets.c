@@ -17,6 +17,7 @@ static void compare_ticket(const struct ticket_vector *v)
 int main(int argc, char **argv)
 {
     start("tickets", argc, argv);
-    CHECK(each_ticket(compare_ticket) > 200, "vectors.txt has too few tickets");
+    CHECK(each_ticket("ticket", compare_ticket) > 200, "vectors.txt has too few tickets");
+    CHECK(each_ticket("far", compare_ticket) > 2, "vectors.txt has too few far tickets");
     return finish();
 }

@@ -92,14 +92,14 @@ int each_block(void (*use)(const struct block_vector *))
     return lines;
 }
 
-int each_ticket(void (*use)(const struct ticket_vector *))
+int each_ticket(const char *kind, void (*use)(const struct ticket_vector *))
 {
     FILE *file = open_vectors();
     char line[256], sum[33], bytes[33];
     int lines = 0;
     struct ticket_vector v;
-    for (; next_line(file, "ticket", line); lines++) {
-        need(sscanf(line, "ticket %" SCNu64 " %" SCNu64 " %" SCNu64 " %" SCNu64 " %32s %32s", &v.p, &v.c, &v.row,
+    for (; next_line(file, kind, line); lines++) {
+        need(sscanf(line, "%*s %" SCNu64 " %" SCNu64 " %" SCNu64 " %" SCNu64 " %32s %32s", &v.p, &v.c, &v.row,
                     &v.block, sum, bytes), 6, line);
         v.sum = hexadecimal(sum);
         bytes_of(bytes, v.bytes);

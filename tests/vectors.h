@@ -28,11 +28,15 @@ struct closing_vector {
     char digits[33];
 };
 
-/* Each gives the number of lines of its kind. The file is vectors.txt of the working directory. */
+/*
+ * Each gives the number of lines of its kind. The file is vectors.txt of the
+ * working directory. Tickets are of the kind "ticket", or "far": some million
+ * terms, too many for the reference in a test.
+ */
 int each_term(void (*use)(const struct term_vector *));
 int each_count(void (*use)(uint64_t p, uint64_t terms));
 int each_block(void (*use)(const struct block_vector *));
-int each_ticket(void (*use)(const struct ticket_vector *));
+int each_ticket(const char *kind, void (*use)(const struct ticket_vector *));
 int each_closing(void (*use)(const struct closing_vector *));
 
 #endif

@@ -87,12 +87,17 @@ static int load_sheet(uint64_t row, uint64_t block, uint8_t *sheet)
     return 1;
 }
 
-/* Written whole under another name first, so that a stopped run leaves no half sheet. */
+/*
+ * Written whole under a name of this process's own first, so that a stopped
+ * run leaves no half sheet, and a process that outlives it does not disturb
+ * the next run.
+ */
 static void keep_sheet(uint64_t row, uint64_t block, const uint8_t *sheet)
 {
-    char path[PATH_ROOM], partial[PATH_ROOM];
+    char path[PATH_ROOM], partial[PATH_ROOM], ending[32];
+    snprintf(ending, sizeof ending, ".%ld", (long)getpid());
     sheet_path(path, row, block, "");
-    sheet_path(partial, row, block, ".partial");
+    sheet_path(partial, row, block, ending);
     FILE *file = fopen(partial, "wb");
     if (file == NULL || fwrite(sheet, 1, SHEET_LEN, file) != SHEET_LEN || fflush(file) != 0 || fsync(fileno(file)) != 0)
         fail(partial);

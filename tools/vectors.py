@@ -95,10 +95,10 @@ def term_line(p, row, k, note):
           (p, row, k, N, E, "+" if s > 0 else "-", size(p, row, k), note))
 
 
-def ticket_line(p, c, row, i):
+def ticket_line(p, c, row, i, kind="ticket"):
     s = ticket(p, c, row, i)
-    print("ticket %d %d %d %d %032x %s" %
-          (p, c, row, i, s, s.to_bytes(16, "little").hex()))
+    print("%s %d %d %d %d %032x %s" %
+          (kind, p, c, row, i, s, s.to_bytes(16, "little").hex()))
 
 
 def closing_line(p, total):
@@ -197,6 +197,12 @@ def tickets():
         ticket_line(10**5, 256, row, i)
 
 
+def far_tickets():
+    print("\n# Tickets of some million terms, with N above 2^32 but for row 1: far p C row block sum bytes")
+    for row, i in ((1, 200), (2, 255), (6, 180)):
+        ticket_line(2 * 10**9, 256, row, i, "far")
+
+
 def closings():
     print("\n# Closings, all tickets marked: closing p total answer digits")
     for total in (0, 48, 49, 50, 51, M - 52, M - 51, M - 50, M - 49, M - 1,
@@ -231,6 +237,7 @@ def main():
     far_terms()
     far_blocks()
     tickets()
+    far_tickets()
     closings()
     return 0
 
