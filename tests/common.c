@@ -1,16 +1,35 @@
 #include "common.h"
 
 #include <inttypes.h>
+#include <signal.h>
 #include <stdarg.h>
 #include <stdio.h>
 #include <stdlib.h>
 #include <string.h>
 #include <sys/mman.h>
+#include <unistd.h>
 
 /* Checks. */
 
 static const char *test_name;
 static uint64_t seed, count, checks, state;
+
+/* A read or write outside the lent slices, or a write to an input. */
+static void on_fault(int number, siginfo_t *info, void *context)
+{
+    (void)number;
+    (void)context;
+    dprintf(STDERR_FILENO, "%s, seed %" PRIu64 ", after check %" PRIu64 ": no access to %p is allowed\n", test_name, seed,
+            checks, info->si_addr);
+    _exit(1);
+}
+
+static void catch_faults(void)
+{
+    struct sigaction action = {.sa_sigaction = on_fault, .sa_flags = SA_SIGINFO};
+    sigaction(SIGSEGV, &action, NULL);
+    sigaction(SIGBUS, &action, NULL);
+}
 
 void start(const char *name, int argc, char **argv)
 {
@@ -18,7 +37,7 @@ void start(const char *name, int argc, char **argv)
     seed = argc > 1 ? strtoull(argv[1], NULL, 10) : 1;
     count = argc > 2 ? strtoull(argv[2], NULL, 10) : 2000;
     state = seed;
-    setvbuf(stdout, NULL, _IOLBF, 0);
+    catch_faults();
 }
 
 int finish(void)
@@ -154,10 +173,9 @@ static uint8_t guard_byte(size_t i)
 
 static void place_empty(struct slot *slot)
 {
-    static const int null = 0, start_edge = 1;
-    int kind = (int)below(3);
+    uint8_t *places[] = {NULL, slot->room - PAGE, slot->room + ROOM};
     slot->guard = NULL;
-    slot->at = kind == null ? NULL : kind == start_edge ? slot->room - PAGE : slot->room + ROOM;
+    slot->at = places[below(3)];
 }
 
 static void place(struct slot *slot, const uint8_t *bytes, size_t len)

@@ -70,8 +70,8 @@ static int damage(int kind)
     case 5: t.c = bad_blocks(); return 2;
     case 6: t.row = 7; return 4;
     case 7: t.row = wide_number(below(7)); return 4;
-    case 8: t.block = t.c; return t.c <= 256 ? 4 : UNSURE;
-    case 9: t.block = wide_number(below(256)); return t.c <= 256 ? 4 : UNSURE;
+    case 8: t.block = t.c; return 4;
+    case 9: t.block = wide_number(below(256)); return 4;
     case 10:
     case 11: spoil_ledger(t.ledger); return 5;
     case 12: any_bytes(t.ledger, 256); return UNSURE;

@@ -28,9 +28,9 @@ static int damage(int kind)
     case 3: t.c = bad_blocks(); return 2;
     case 4: t.row = 7; return 4;
     case 5: t.row = wide_number(below(7)); return 4;
-    case 6: t.block = t.c; return t.c <= 256 ? 4 : UNSURE;
-    case 7: t.block = wide_number(below(256)); return t.c <= 256 ? 4 : UNSURE;
-    default: t.block = UINT64_MAX - below(2); return t.c <= 256 ? 4 : UNSURE;
+    case 6: t.block = t.c; return 4;
+    case 7: t.block = wide_number(below(256)); return 4;
+    default: t.block = UINT64_MAX - below(2); return 4;
     }
 }
 

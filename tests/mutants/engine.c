@@ -234,6 +234,8 @@ int64_t bbp_post(uint8_t *ledger, size_t ledger_len, uint64_t p, uint64_t c, uin
     }
     mark(ledger, row, block);
     add(ledger, sum);
+    if (WRONG(45))
+        *(volatile uint8_t *)(uintptr_t)sum = sum[0];
     return 0;
 }
 
@@ -312,6 +314,8 @@ int64_t bbp_sheet_read(const uint8_t *sheet, size_t sheet_len, uint8_t *list, si
 {
     if (bad_sheet_size(sheet_len))
         return -1;
+    if (WRONG(44))
+        (void)*(const volatile uint8_t *)(sheet + sheet_len);
     size_t e = load(sheet + 10, 2);
     int64_t bad = bad_sheet(sheet, length(sheet_len));
     if (WRONG(18) && bad != 0)
