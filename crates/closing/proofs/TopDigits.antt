@@ -136,7 +136,7 @@ negative-none T b H h =
     (λ l. sym (none-settled (negsuc (b - suc T)) (pos H) (λ d s. pos-ne-negsuc (H / unitAt d) ((b - suc T) / unitAt d) (sym (s .2)))))
     (λ l. absurd (omega arith))
 
-sub-pos : (T b : ℕ) → b ≤ T → subℕ T b ≡ pos (T - b)
+pub sub-pos : (T b : ℕ) → b ≤ T → subℕ T b ≡ pos (T - b)
 sub-pos T b h = sub-cases T b (λ z. z ≡ pos (T - b)) (λ l. absurd (omega arith)) (λ l. refl)
 
 -- at 2 ^ 128 or above
