@@ -1,2 +1,5 @@
+pub mod Opening
+pub mod Inspect
+pub mod Posting
 pub mod Marks
 pub mod Image

@@ -1,4 +1,8 @@
 // Runs, blocks and tickets, and the refusal table.
+use series::Series;
+ghost use mathlib.Core.Path.{_≡_};
+ghost use Rattle.series.specs.Names.{formulaOf};
+ghost use Rattle.run.specs.Run.{limitsOf, inRange, isTicket};
 
 // The refusals that document 01 numbers from 1 to 9.
 pub enum Refusal {
@@ -17,4 +21,31 @@ pub enum Refusal {
 pub enum Answer {
     Finished(u32),
     Refused(Refusal),
+}
+
+// Whether p and c are those of a run.
+pub fn in_range(f: Series, p: u64, c: u64) -> bool
+    ensures { λ r. ⌜ r ≡ inRange (limitsOf (formulaOf f)) p c ⌝ }
+{
+    if p < 1 {
+        return false;
+    }
+    if series::limits::last_position(f) < p {
+        return false;
+    }
+    if c < 1 {
+        return false;
+    }
+    c <= 256
+}
+
+// Whether the row and the block are those of a ticket, where there are c blocks.
+pub fn is_ticket(f: Series, c: u64, row: u64, block: u64) -> bool
+    ensures { λ r. ⌜ r ≡ isTicket (limitsOf (formulaOf f)) c row block ⌝ }
+{
+    if row < series::limits::row_count(f) as u64 {
+        block < c
+    } else {
+        false
+    }
 }

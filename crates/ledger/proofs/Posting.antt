@@ -1,0 +1,180 @@
+-- Posting a ticket: the refusal at each test, what is known where none applies, and the ledger with the ticket entered.
+-- Assumes nothing.
+use mathlib.Core.Path.{_≡_, refl, sym, ap, _∙_}
+use mathlib.Core.Bool.{Bool, true, false, not, _&&_, _||_}
+use mathlib.Core.List.{List, _++_}
+use Prim.Native.Nat.{ℕ, _+_, _*_, _-_, _/_, _%_, _^_, _≤_, _<_}
+use native.Mathlib.Nat.{div-add-mod', mod-lt, div-lt-iff-lt-mul, mul-le-mul-right, one-mul, mod-eq-of-lt}
+use native.Mathlib.Omega.{arith}
+use borrow.Author.Tests.{eqb-true, eqb-false, eq-eqb, ne-eqb, not-false}
+use lib.Dec.{eqb}
+use lib.IntN.{pos}
+use lib.ListN.{length, getD, set, take, drop}
+use lib.Pow.{pow-add, pow-pos}
+use lib.Seq.{take-all}
+use Rattle.algebra.proofs.Booleans.{and-left, and-right}
+use Rattle.words.specs.Bytes.{bytesOf, valueOf, field}
+use Rattle.series.specs.Series.{modulus}
+use Rattle.run.specs.Refusal.{refusal}
+use Rattle.run.specs.Run.{Limits, inRange, isTicket}
+use Rattle.run.specs.Answers.{answerOf}
+use Rattle.run.specs.declared.Refusal.{Refusal}
+use Rattle.run.specs.declared.Answer.{Answer}
+use Rattle.run.specs.declared.Answer.the-variants.{Finished, Refused}
+use Rattle.run.proofs.Range.{range-of, ticket-row, ticket-block}
+use Rattle.run.proofs.Answering.{passes, finished, changed, was-finished, was-refused}
+use Rattle.ledger.specs.Ledger.{View, viewOf, ledgerSize, markAt, posIn, blocksIn, bitIn, markIn, inOrder, enter}
+use Rattle.ledger.specs.Calls.{ticketRefusal, ticketAnswer, ticketBytes}
+
+-- ---- the bit of a ticket
+
+-- where bit k of a byte is 0, 2^k more is a byte still: the quotient by 2^k is even, and below 2^(8 - k)
+pub bit-fits : (b k : ℕ) → b < 256 → k < 8 → eqb (b / 2 ^ k % 2) 1 ≡ false → b + 2 ^ k < 256
+bit-fits b k h l e =
+    let q = b / 2 ^ k in
+    let bits : 1 + (7 - k) + k ≡ 8 = omega arith in
+    let ends : 2 * 2 ^ (7 - k) * 2 ^ k ≡ 256 =
+    sym (pow-add 2 (1 + (7 - k)) k ∙ ap (λ (n : ℕ). n * 2 ^ k) (pow-add 2 1 (7 - k))) ∙ ap (λ (n : ℕ). 2 ^ n) bits in
+    let below : q < 2 * 2 ^ (7 - k) = div-lt-iff-lt-mul (pow-pos k) .1 (omega arith) in
+    let odd = eqb-false (q % 2) 1 e in
+    let next : (q + 2) * 2 ^ k ≤ 2 * 2 ^ (7 - k) * 2 ^ k = mul-le-mul-right (2 ^ k) (omega arith) in
+    let rest = mod-lt b (pow-pos k) in
+    omega (arith, div-add-mod' b (2 ^ k))
+
+-- the mark's byte, as the code makes it
+pub mark-fits : (s : List ℕ) (row block : ℕ) → getD s (markAt row block) 0 < 256 → bitIn s row block ≡ false
+    → (1 * 2 ^ (block % 8) % 256 ≡ 2 ^ (block % 8)) × (getD s (markAt row block) 0 + 1 * 2 ^ (block % 8) % 256 < 256)
+unfolding bitIn
+mark-fits s row block h e =
+    let l = bit-fits (getD s (markAt row block) 0) (block % 8) h (omega arith) e in
+    let m : 1 * 2 ^ (block % 8) % 256 ≡ 2 ^ (block % 8) = ap (λ (n : ℕ). n % 256) (one-mul (2 ^ (block % 8))) ∙ mod-eq-of-lt (omega arith) in
+    (m, omega arith)
+
+pub entered : (s t : List ℕ) (row block x total sum byte : ℕ) → total ≡ field s 16 16 → sum ≡ (total + x) % modulus
+    → t ≡ take 16 s ++ bytesOf 16 sum ++ drop (16 + 16) s → byte ≡ getD s (markAt row block) 0 + 2 ^ (block % 8)
+    → set t (markAt row block) byte ≡ enter s row block x
+unfolding enter
+entered s t row block x total sum byte et es e eb = rw (e, es, et, eb) refl
+
+-- ---- the ledger at a ticket of its run
+
+-- the byte of the mark is in the ledger
+pub mark-inside : (lim : Limits) (s : List ℕ) (p C row block : ℕ) → length s ≡ ledgerSize lim → inRange lim p C ≡ true
+    → isTicket lim C row block ≡ true → markAt row block < length s
+mark-inside lim s p C row block h r t =
+    omega (arith, range-of lim p C r .C-high, ticket-row lim C row block t, ticket-block lim C row block t)
+
+-- a ticket of the ledger's run is marked if its bit is set
+pub mark-is-bit : (lim : Limits) (s : List ℕ) (C row block : ℕ) → C ≡ blocksIn s → isTicket lim C row block ≡ true
+    → markIn lim s row block ≡ bitIn s row block
+unfolding markIn
+mark-is-bit lim s C row block e t = rw (← e, t) refl
+
+-- ---- the tests of a post of one ticket, in their order
+
+-- what is known where none applies
+pub record Passed (lim : Limits) (s : List ℕ) (p C row block : ℕ) (sum : List ℕ) : Type 0 where
+  pub sized : length s ≡ ledgerSize lim
+  pub sum-sized : length sum ≡ 16
+  pub range : inRange lim p C ≡ true
+  pub ticket : isTicket lim C row block ≡ true
+  pub ordered : inOrder lim s ≡ true
+  pub same-run : (eqb p (posIn s) && eqb C (blocksIn s)) ≡ true
+  pub unset : bitIn s row block ≡ false
+
+pub inside : {lim : Limits} {s : List ℕ} {p C row block : ℕ} {sum : List ℕ} → Passed lim s p C row block sum → markAt row block < length s
+inside {lim} {s} {p} {C} {row} {block} h = mark-inside lim s p C row block (h .sized) (h .range) (h .ticket)
+
+or-false : (a b : Bool) → (not a || not b) ≡ false → (a ≡ true) × (b ≡ true)
+or-false true true e = (refl, refl)
+or-false true false e = (refl, sym e)
+or-false false b e = (sym e, let z : true ≡ false = e in cc)
+
+module _ (lim : Limits) (s : List ℕ) (p C row block : ℕ) (sum : List ℕ) where
+  abbrev number : ℕ
+  number = ticketRefusal lim (viewOf lim s) p C row block sum
+
+  pub passed : number ≡ 0 → Passed lim s p C row block sum
+  unfolding ticketRefusal viewOf
+  passed e =
+      let a = passes 0 _ _ e in
+      let b = passes 1 _ _ (a .1) in
+      let c = passes 3 _ _ (b .1) in
+      let d = passes 4 _ _ (c .1) in
+      let f = passes 5 _ _ (d .1) in
+      let g = passes 6 _ _ (f .1) in
+      let sizes = or-false (eqb (length s) (ledgerSize lim)) (eqb (length sum) 16) (a .0) in
+      let t = not-false (isTicket lim C row block) (c .0) in
+      let r = not-false (eqb p (posIn s) && eqb C (blocksIn s)) (f .0) in
+      let blocks = eqb-true C (blocksIn s) (and-right (eqb p (posIn s)) (eqb C (blocksIn s)) r) in
+      record {
+        sized = eqb-true (length s) (ledgerSize lim) (sizes .0);
+        sum-sized = eqb-true (length sum) 16 (sizes .1);
+        range = not-false (inRange lim p C) (b .0);
+        ticket = t;
+        ordered = not-false (inOrder lim s) (d .0);
+        same-run = r;
+        unset = sym (mark-is-bit lim s C row block blocks t) ∙ g .0;
+      }
+
+  pub ledger-size : (length s ≡ ledgerSize lim → ⊥) → number ≡ 1
+  unfolding ticketRefusal refusal viewOf
+  ledger-size h = rw (ne-eqb _ _ h) refl
+
+  pub sum-size : length s ≡ ledgerSize lim → (length sum ≡ 16 → ⊥) → number ≡ 1
+  unfolding ticketRefusal refusal viewOf
+  sum-size h l = rw (eq-eqb _ _ h, ne-eqb _ _ l) refl
+
+  module _ (h : length s ≡ ledgerSize lim) (l : length sum ≡ 16) where
+    pub out-of-range : inRange lim p C ≡ false → number ≡ 2
+    unfolding ticketRefusal refusal viewOf
+    out-of-range r = rw (eq-eqb _ _ h, eq-eqb _ _ l, r) refl
+
+    pub no-ticket : inRange lim p C ≡ true → isTicket lim C row block ≡ false → number ≡ 4
+    unfolding ticketRefusal refusal viewOf
+    no-ticket r t = rw (eq-eqb _ _ h, eq-eqb _ _ l, r, t) refl
+
+    module _ (r : inRange lim p C ≡ true) (t : isTicket lim C row block ≡ true) where
+      pub out-of-order : inOrder lim s ≡ false → number ≡ 5
+      unfolding ticketRefusal refusal viewOf
+      out-of-order o = rw (eq-eqb _ _ h, eq-eqb _ _ l, r, t, o) refl
+
+      pub other-run : inOrder lim s ≡ true → (eqb p (posIn s) && eqb C (blocksIn s)) ≡ false → number ≡ 6
+      unfolding ticketRefusal refusal viewOf
+      other-run o u = rw (eq-eqb _ _ h, eq-eqb _ _ l, r, t, o, u) refl
+
+      module _ (o : inOrder lim s ≡ true) (u : (eqb p (posIn s) && eqb C (blocksIn s)) ≡ true) where
+        blocks : C ≡ blocksIn s
+        blocks = eqb-true C (blocksIn s) (and-right (eqb p (posIn s)) (eqb C (blocksIn s)) u)
+
+        pub marked : bitIn s row block ≡ true → number ≡ 7
+        unfolding ticketRefusal refusal viewOf
+        marked b = rw (eq-eqb _ _ h, eq-eqb _ _ l, r, t, o, u, mark-is-bit lim s C row block blocks t, b) refl
+
+        pub admitted : bitIn s row block ≡ false → number ≡ 0
+        unfolding ticketRefusal refusal viewOf
+        admitted b = rw (eq-eqb _ _ h, eq-eqb _ _ l, r, t, o, u, mark-is-bit lim s C row block blocks t, b) refl
+
+-- ---- after the tests, by what they answered
+
+-- a sum's 16 bytes, read as a number of two words
+sum-read : (sum : List ℕ) → length sum ≡ 16 → field sum 0 16 ≡ valueOf sum
+unfolding field
+sum-read sum h = ap valueOf (take-all 16 sum (omega arith))
+
+module _ (lim : Limits) (s : List ℕ) (p C row block : ℕ) (sum : List ℕ) (a : Answer) (tested : answerOf a ≡ ticketAnswer lim s p C row block sum) where
+  pub none-applied : (v : ℕ) → a ≡ Finished v → Passed lim s p C row block sum
+  unfolding ticketAnswer
+  none-applied v e = passed lim s p C row block sum (was-finished a v _ 0 e tested .0)
+
+  pub posted : (v x : ℕ) (t : List ℕ) → a ≡ Finished v → x ≡ field sum 0 16 → t ≡ enter s row block x
+      → (pos 0 ≡ ticketAnswer lim s p C row block sum) × (t ≡ ticketBytes lim s p C row block sum)
+  unfolding ticketAnswer ticketBytes
+  posted v x t e ex et =
+      let z = was-finished a v _ 0 e tested .0 in
+      (finished _ 0 z, et ∙ ap (enter s row block) (ex ∙ sum-read sum (none-applied v e .sum-sized)) ∙ changed _ _ s z)
+
+  pub not-posted : (r : Refusal) → a ≡ Refused r
+      → (answerOf (Refused r) ≡ ticketAnswer lim s p C row block sum) × (s ≡ ticketBytes lim s p C row block sum)
+  unfolding ticketAnswer ticketBytes
+  not-posted r e = (sym (ap answerOf e) ∙ tested, was-refused a r _ 0 _ s e tested)

@@ -1,0 +1,68 @@
+-- Refusals and answers: a test that does not apply, what a call answers and leaves by the number of its refusal, and the number by
+-- what it answered.
+-- Assumes nothing.
+use mathlib.Core.Path.{_≡_, refl, sym, ap, _∙_}
+use mathlib.Core.Bool.{Bool, true, false, cond}
+use mathlib.Core.List.{List, _∷_}
+use Prim.Native.Nat.{ℕ, zero, suc, _<_}
+use native.Mathlib.Omega.{arith}
+use borrow.Author.Tests.{ne-eqb}
+use lib.Dec.{eqb, lit<}
+use lib.IntN.{ℤ, pos, negsuc, negℤ}
+use Rattle.run.specs.Refusal.{Test, _⇐_, refusal, answer}
+use Rattle.run.specs.Answers.{numberOf, answerOf}
+use Rattle.run.specs.declared.Refusal.{Refusal}
+use Rattle.run.specs.declared.Refusal.the-variants.{WrongSize, OutOfRange, Malformed, NoTicket, OutOfOrder, OtherRun, Marked, Unmarked, Unsettled}
+use Rattle.run.specs.declared.Answer.{Answer}
+use Rattle.run.specs.declared.Answer.the-variants.{Finished, Refused}
+
+-- where nothing is refused, the first test does not apply, nor does one after it
+pub passes : (n : ℕ) (b : Bool) (ts : List Test) → refusal ((suc n ⇐ b) ∷ ts) ≡ 0 → (b ≡ false) × (refusal ts ≡ 0)
+unfolding refusal
+passes n true ts e = absurd (let z : suc n ≡ 0 = e in omega arith)
+passes n false ts e = (refl, e)
+
+-- ---- from the number
+
+pub refused : (number n value : ℕ) → number ≡ suc n → negsuc n ≡ answer number value
+unfolding answer
+refused number n value e = rw e refl
+
+pub finished : (number value : ℕ) → number ≡ 0 → pos value ≡ answer number value
+unfolding answer
+finished number value e = rw e refl
+
+-- a buffer, and the bytes that it gets where the call is not refused
+pub kept : (number n : ℕ) (new old : List ℕ) → number ≡ suc n → old ≡ cond (eqb number 0) new old
+kept number n new old e = rw (ne-eqb number 0 (λ z. omega arith)) refl
+
+pub changed : (number : ℕ) (new old : List ℕ) → number ≡ 0 → new ≡ cond (eqb number 0) new old
+changed number new old e = rw e refl
+
+-- ---- from the answer
+
+some-number : (r : Refusal) → 0 < numberOf r
+some-number WrongSize = lit< tt
+some-number OutOfRange = lit< tt
+some-number Malformed = lit< tt
+some-number NoTicket = lit< tt
+some-number OutOfOrder = lit< tt
+some-number OtherRun = lit< tt
+some-number Marked = lit< tt
+some-number Unmarked = lit< tt
+some-number Unsettled = lit< tt
+
+below-zero : (n value : ℕ) → 0 < n → negℤ (pos n) ≡ pos value → ⊥
+below-zero zero value h e = omega arith
+below-zero (suc n) value h e = let z : _≡_ {A = ℕ} 0 1 = cc in omega arith
+
+pub was-finished : (a : Answer) (v number value : ℕ) → a ≡ Finished v → answerOf a ≡ answer number value → (number ≡ 0) × (v ≡ value)
+unfolding answer
+was-finished a v zero value f e = (refl, cc)
+was-finished a v (suc n) value f e = absurd (let z : _≡_ {A = ℕ} 0 1 = cc (ap answerOf f) in omega arith)
+
+pub was-refused : (a : Answer) (r : Refusal) (number value : ℕ) (new old : List ℕ) → a ≡ Refused r → answerOf a ≡ answer number value
+    → old ≡ cond (eqb number 0) new old
+unfolding answer
+was-refused a r zero value new old f e = absurd (below-zero (numberOf r) value (some-number r) (sym (ap answerOf f) ∙ e))
+was-refused a r (suc n) value new old f e = kept (suc n) n new old refl
