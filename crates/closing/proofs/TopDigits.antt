@@ -115,7 +115,7 @@ pub shared-is : (L H d : ℕ) → d ≤ 32 → Share L H d → (d < 32 → Share
 unfolding Settles Share
 shared-is L H zero h s n =
     sym (none-settled (pos L) (pos H) (λ e t.
-        let o = t .0 in n (omega arith) (settles-share L H 1 (fewer (pos L) (pos H) e 1 t (omega arith) (omega arith)))))
+    let o = t .0 in n (omega arith) (settles-share L H 1 (fewer (pos L) (pos H) e 1 t (omega arith) (omega arith)))))
 shared-is L H (suc d) h s n =
     sym (greatest (pos L) (pos H) (suc d) (omega arith, h, ap pos s) (λ e t. within e t (ltb (suc d) e) refl))
   where
@@ -144,9 +144,9 @@ pub over-none : (T b H : ℕ) → T < 2 ^ 128 → b ≤ T → 2 ^ 128 ≤ H → 
 unfolding Settles
 over-none T b H t l h =
     sym (none-settled (subℕ T b) (pos H) (λ d s.
-        let o = s .0 in
-        apart (2 ^ 124) (T - b) H (lower T b (2 ^ 128) t) h
-        (settles-share (T - b) H 1 (subst (λ (z : ℤ). Settles z (pos H) 1) (sub-pos T b l) (fewer (subℕ T b) (pos H) d 1 s (omega arith) (omega arith))))))
+    let o = s .0 in
+    apart (2 ^ 124) (T - b) H (lower T b (2 ^ 128) t) h
+    (settles-share (T - b) H 1 (subst (λ (z : ℤ). Settles z (pos H) 1) (sub-pos T b l) (fewer (subℕ T b) (pos H) d 1 s (omega arith) (omega arith))))))
   where
     lower : (T b M : ℕ) → T < M → T - b < M
     lower T b M h = omega arith

@@ -8,7 +8,6 @@ ghost use lib.ListN.{length, drop};
 ghost use Rattle.words.specs.Words.{joined};
 ghost use Rattle.interval.specs.Interval.{unitAt};
 ghost use Rattle.interval.specs.Digits.{settled, hexDigit, lowDigits};
-
 use words::Wide;
 
 // Whether a is below b.
