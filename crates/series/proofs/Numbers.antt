@@ -3,7 +3,7 @@
 use mathlib.Core.Path.{_≡_, ap}
 use Prim.Native.Nat.{ℕ, _+_, _*_, _-_, _/_, _%_, _^_, _≤_, _<_}
 use mathlib.Core.Logic.{_↔_}
-use native.Mathlib.Nat.{mul-le-mul-left, mul-div-le, div-mul-le-self, le-div-iff-mul-le, div-add-mod', le-trans}
+use native.Mathlib.Nat.{mul-le-mul-left, mul-div-le, div-mul-le-self, div-le-self, le-div-iff-mul-le, div-add-mod', le-trans}
 use native.Mathlib.Omega.{arith}
 use lib.Dec.{lit<, lit≤}
 use Rattle.series.specs.Series.{Formula, Row, skipped, divisor, fall, termCount}
@@ -24,6 +24,11 @@ unfolding termCount
 fall-small F p k h =
     let q : k ≤ (4 * skipped p + 130) / F .step = omega arith in
     le-trans (mul-le-mul-left (F .step) q) (mul-div-le (4 * skipped p + 130) (F .step))
+
+-- K fits with room to spare
+pub count-small : (f : Series) (p : ℕ) → Position (formulaOf f) p → termCount (formulaOf f) p < 2 ^ 63
+unfolding termCount
+count-small f p w = omega (arith, w .high, last-small f, div-le-self (4 * skipped p + 130) (formulaOf f .step))
 
 -- K grows with p
 count-grows : (F : Formula) (p p′ : ℕ) → 0 < F .step → p ≤ p′ → termCount F p ≤ termCount F p′
