@@ -5,24 +5,32 @@ use mathlib.Core.Bool.{Bool, true, false, not, cond, _&&_}
 use mathlib.Core.List.{List, _++_}
 use Prim.Native.Nat.{ℕ, zero, suc, _+_, _*_, _-_, _/_, _%_, _^_, _<_, _≤_}
 use native.Mathlib.Omega.{arith}
-use borrow.Author.Tests.{eqb-true, eq-eqb, ne-eqb, ltb-true, ltb-false}
+use borrow.Author.Tests.{eqb-true, eqb-false, not-false, eq-eqb, ne-eqb, ltb-true, ltb-false}
 use lib.Dec.{eqb, ltb}
 use lib.IntN.{ℤ, pos, subℕ}
 use lib.ListN.{length, drop}
 use Rattle.algebra.specs.Test.{allBelow}
 use Rattle.algebra.specs.Whole.{quotient, sameℤ}
-use Rattle.algebra.proofs.Booleans.{and-left}
+use Rattle.algebra.proofs.Booleans.{and-left, neither}
 use Rattle.algebra.proofs.Below.{all-ext}
+use Rattle.words.specs.Bytes.{field}
 use Rattle.series.specs.Series.{Formula, rowCount, termCount, plus, minus}
 use Rattle.series.specs.Fitting.{Position}
+use Rattle.series.specs.Names.{formulaOf}
+use Rattle.series.specs.declared.Series.{Series}
+use Rattle.series.specs.declared.Series.the-variants.{Bellard}
 use Rattle.interval.specs.Interval.{low, high, charges, unitAt}
 use Rattle.interval.specs.Digits.{settledUpTo, settled, lowDigits}
 use Rattle.run.specs.Refusal.{refusal}
 use Rattle.run.specs.Run.{Limits, limitsOf, inRange, isTicket}
 use Rattle.run.proofs.Range.{Range, range-of, is-ticket}
-use Rattle.run.proofs.Answering.{changed}
+use Rattle.run.specs.Answers.{answerOf}
+use Rattle.run.specs.declared.Answer.{Answer}
+use Rattle.run.specs.declared.Answer.the-variants.{Finished, Refused}
+use Rattle.run.specs.declared.Refusal.{Refusal}
+use Rattle.run.proofs.Answering.{passes, changed, was-finished, was-refused}
 use Rattle.ledger.specs.Ledger.{ledgerSize, posIn, blocksIn, totalIn, bitIn, markIn, inOrder}
-use Rattle.closing.specs.Closing.{lowOf, highOf, settledAt, digitsAt, closeRefusal, closeBytes}
+use Rattle.closing.specs.Closing.{Ordered, lowOf, highOf, settledAt, digitsAt, closeRefusal, closeAnswer, closeBytes}
 use Rattle.closing.proofs.TopDigits.{negative-none, sub-pos, sub-exact}
 
 -- ---- what an ordered ledger says
@@ -125,6 +133,69 @@ unfolding low
 low-is F M p total r n h l e =
     let i = low-in F p total n in
     sub-pos total (charges F minus p (termCount F p) + 1) i ∙ ap pos (sym (sub-exact M total (charges F minus p (termCount F p) + 1) r h l i e))
+
+-- ---- what the code reads of a ledger
+
+pub position-read : (F : Formula) (s : List ℕ) (p : ℕ) → Ordered (limitsOf F) s → p ≡ field s 0 8 → Position F p
+unfolding posIn
+position-read F s p o e = subst (λ (n : ℕ). Position F n) (sym e) (ordered-position F s (o .ordered))
+
+pub blocks-read : (lim : Limits) (s : List ℕ) (c : ℕ) → inOrder lim s ≡ true → c ≡ field s 8 2 → c ≤ 256
+unfolding blocksIn
+blocks-read lim s c o e = subst (λ (n : ℕ). n ≤ 256) (sym e) (ordered-blocks lim s o)
+
+pub full-read : (F : Formula) (s : List ℕ) (rows c : ℕ) (r : Bool) → rows ≡ rowCount F → c ≡ field s 8 2
+    → r ≡ allBelow rows (λ row. allBelow c (λ block. bitIn s row block))
+    → r ≡ allBelow (rowCount F) (λ row. allBelow (blocksIn s) (λ block. bitIn s row block))
+unfolding blocksIn
+full-read F s rows c r n b e = rw (n, b) at e
+
+pub count-small : (f : Series) (p k : ℕ) → Position (formulaOf f) p → k ≡ termCount (formulaOf f) p → k ≤ 2 ^ 60
+unfolding termCount
+count-small Bellard p k h e = omega (arith, h, e)
+
+module _ (F : Formula) (s : List ℕ) (p k b T : ℕ) (p-is : p ≡ field s 0 8) (k-is : k ≡ termCount F p)
+    (b-is : b ≡ charges F minus p k) (T-is : T ≡ field s 16 16) where
+  pub settle-is : (a d : ℕ) → a ≡ charges F plus p k → d ≡ settled (subℕ T (b + 1)) (pos (T + a + 1)) → d ≡ settledAt F (posIn s) (totalIn s)
+  unfolding settledAt low high posIn totalIn
+  settle-is a d a-is e = rw (b-is, a-is, k-is, p-is, T-is) at e
+
+  pub lower-is : (r x : ℕ) → (settledAt F (posIn s) (totalIn s) ≡ 0 → ⊥) → T < 2 ^ 128 → r < 2 ^ 128 → x ≡ b + 1 → (r + x) % 2 ^ 128 ≡ T
+      → lowOf F (posIn s) (totalIn s) ≡ pos r
+  unfolding posIn totalIn
+  lower-is r x n t l x-is e =
+      low-is F (2 ^ 128) (field s 0 8) (field s 16 16) r n (subst (λ (m : ℕ). m < 2 ^ 128) T-is t) l (rw (x-is, b-is, k-is, p-is, T-is) at e)
+
+-- ---- what has been tested where nothing is refused
+
+pub record Tested (F : Formula) (s out : List ℕ) : Type 0 where
+  pub ordered : Ordered (limitsOf F) s
+  pub room : length out ≡ 32
+  pub some : settledAt F (posIn s) (totalIn s) ≡ 0 → ⊥
+
+pub tested : (F : Formula) (s out : List ℕ) → closeRefusal F s out ≡ 0 → Tested F s out
+unfolding closeRefusal
+tested F s out e =
+    let e₁ = passes 0 _ _ e in
+    let e₅ = passes 4 _ _ (e₁ .1) in
+    let e₈ = passes 7 _ _ (e₅ .1) in
+    let e₉ = passes 8 _ _ (e₈ .1) in
+    let sizes = neither (not (eqb (length s) (ledgerSize (limitsOf F)))) (not (eqb (length out) 32)) (e₁ .0) in
+    record {
+      ordered = record { sized = eqb-true _ _ (not-false _ (sizes .0)); ordered = not-false _ (e₅ .0) };
+      room = eqb-true _ _ (not-false _ (sizes .1));
+      some = eqb-false (settledAt F (posIn s) (totalIn s)) 0 (e₉ .0);
+    }
+
+pub was-closed : (F : Formula) (s out : List ℕ) (a : Answer) (d : ℕ) → answerOf a ≡ closeAnswer F s out → a ≡ Finished d
+    → (closeRefusal F s out ≡ 0) × (d ≡ settledAt F (posIn s) (totalIn s))
+unfolding closeAnswer
+was-closed F s out a d e f = was-finished a d _ _ f e
+
+pub not-closed : (F : Formula) (s out : List ℕ) (a : Answer) (r : Refusal) → answerOf a ≡ closeAnswer F s out → a ≡ Refused r
+    → out ≡ closeBytes F s out
+unfolding closeAnswer closeBytes
+not-closed F s out a r e f = was-refused a r _ _ _ out f e
 
 -- ---- what is written
 

@@ -74,6 +74,10 @@ pub joined-lt : (M hi lo : ℕ) → M ≡ 2 ^ 128 → hi < 2 ^ 64 → lo < 2 ^ 6
 unfolding joined
 joined-lt M hi lo e h l = subst (λ (n : ℕ). hi * 2 ^ 64 + lo < n) (sym e) (digits-lt h l)
 
+pub low-word : (x : ℕ) → joined 0 x ≡ x
+unfolding joined
+low-word x = omega arith
+
 -- the same quotient by 2 ^ (128 - 4 d)
 pub Share : ℕ → ℕ → ℕ → Type 0
 Share L H d = L / unitAt d ≡ H / unitAt d

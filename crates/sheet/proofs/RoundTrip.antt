@@ -13,7 +13,7 @@ use lib.ListN.{length, getD, take, drop, length-append}
 use lib.Pow.{pow-pos}
 use lib.Seq.{getD-drop, take-at}
 use Rattle.algebra.specs.Test.{allBelow}
-use Rattle.algebra.proofs.Booleans.{and-left, and-right}
+use Rattle.algebra.proofs.Booleans.{and-left, and-right, neither}
 use Rattle.algebra.proofs.Below.{all-true, all-at}
 use Rattle.algebra.proofs.Integers.{residue-lt}
 use Rattle.words.specs.Bytes.{bytesOf, valueOf, field, AllBytes}
@@ -31,10 +31,6 @@ use Rattle.sheet.specs.RoundTrip.{Fits, written, ReadsBack, WrittenReads
 use Rattle.sheet.proofs.Simulation.{formed}
 use Rattle.sheet.proofs.Many.{run-holds, count-entries, count-listed}
 use Rattle.sheet.proofs.Sheets.{Fitting, pos-read, blocks-read, count-read, entries-read, sheet-again, length-contents}
-
-neither : (a b : Bool) → (a || b) ≡ false → (a ≡ false) × (b ≡ false)
-neither true b e = absurd (let z : _≡_ {A = ℕ} 0 1 = cc in omega arith)
-neither false b e = (refl, e)
 
 -- ---- what the writer has tested
 

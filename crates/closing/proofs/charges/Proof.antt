@@ -29,9 +29,9 @@ mul-pairs : tie.Need-mul-pairs
 mul-pairs c = search needs
 
 returns : tie.Need-returns
-returns c p =
+returns c =
     let a = c .before .args in
-    even (a .f) (cond (a .added) plus minus) (a .k) p (c .if1 .taken)
+    ((λ p. even (a .f) (cond (a .added) plus minus) (a .k) p (c .if1 .taken)), omega arith)
 
 add-result : tie.Need-add-result
 add-result c = search needs
@@ -41,15 +41,15 @@ add-result-2 c = search needs
 
 returns-2 : tie.Need-returns-2
 unfolding lastTerms
-returns-2 c p =
+returns-2 c =
     let a = c .before .before .args in
-    rw (c .if2 .taken) (odd (a .f) plus (a .k) p (c .before .if1 .left))
+    ((λ p. rw (c .if2 .taken) (odd (a .f) plus (a .k) p (c .before .if1 .left))), omega arith)
 
 returns-3 : tie.Need-returns-3
 unfolding lastTerms
-returns-3 c p =
+returns-3 c =
     let a = c .before .before .args in
-    rw (c .if2 .left) (odd (a .f) minus (a .k) p (c .before .if1 .left))
+    ((λ p. rw (c .if2 .left) (odd (a .f) minus (a .k) p (c .before .if1 .left))), omega arith)
 
 pub charges-spec : {M : Type 1} → statement M
 charges-spec = tie.close (tie.spec mul-pairs returns add-result add-result-2 returns-2 returns-3)

@@ -11,15 +11,11 @@ use lib.Dec.{ltb}
 use lib.IntN.{pos, subℕ}
 use Rattle.words.specs.Words.{joined}
 use Rattle.interval.specs.Digits.{settled}
-use Rattle.closing.proofs.TopDigits.{joined-lt, negative-none, over-none, within-is, sub-exact, add-over, add-exact}
+use Rattle.closing.proofs.TopDigits.{joined-lt, low-word, negative-none, over-none, within-is, sub-exact, add-over, add-exact}
 use Rattle.closing.proofs.settled_digits.Statement.{statement}
 use Rattle.closing.proofs.settled_digits.Tie as tie
 use Rattle.closing.proofs.settled_digits.Reads as reads
 use Rattle.closing.proofs.settled_digits.Lts as lts
-
-low-word : (x : ℕ) → joined 0 x ≡ x
-unfolding joined
-low-word x = omega arith
 
 -- T below b + 1
 first : (T b H x : ℕ) (r : Bool) → x ≡ b + 1 → r ≡ ltb T x → r ≡ true → 0 ≡ settled (subℕ T (b + 1)) (pos H)
