@@ -1,4 +1,5 @@
 -- Whole numbers as differences of naturals, so that `omega` can prove what is stated of them.
+-- Assumes nothing.
 use mathlib.Core.Path.{_≡_, refl, sym, ap, ap₂, _∙_, subst}
 use mathlib.Core.Bool.{Bool, true, false, cond, not}
 use Prim.Native.Nat.{ℕ, zero, suc, _+_, _*_, _-_, _/_, _%_, _≤_, _<_}
@@ -6,8 +7,8 @@ use native.Mathlib.Nat.{mod-add-div, mod-lt, mod-le, div-mul-le-self, lt-div-mul
 use native.Mathlib.Omega.{arith}
 use lib.Dec.{T, leb, ltb, le→leb, ltb→lt, nltb→le}
 use lib.IntN.{ℤ, pos, negsuc, subℕ, negℤ, _+ℤ_, _-ℤ_, _*ℤ_}
-use lib.Signed.{_≤ℤ_, leZ, shrZ}
-use Rattle.algebra.specs.Whole.{residue}
+use lib.Signed.{_≤ℤ_}
+use Rattle.algebra.specs.Whole.{quotient, residue}
 
 -- z is a less b
 abbrev pub IsDiff : ℤ → ℕ → ℕ → Type 0
@@ -72,11 +73,11 @@ diff-self (pos n) = omega arith
 diff-self (negsuc n) = omega arith
 
 -- a quotient rounded down, between its own multiple and the next
-pub floor-low : (x : ℤ) (W : ℕ) {a b s t : ℕ} → 0 < W → Diff x a b → Diff (shrZ x W) s t → s * W + b ≤ a + t * W
+pub floor-low : (x : ℤ) (W : ℕ) {a b s t : ℕ} → 0 < W → Diff x a b → Diff (quotient x W) s t → s * W + b ≤ a + t * W
 floor-low (pos n) W w h k = let l = div-mul-le-self n W in let e = ap (λ (i : ℕ). i * W) (k .is) in omega (arith, l, e)
 floor-low (negsuc n) W w h k = let l = lt-div-mul-add {a = n} w in let e = ap (λ (i : ℕ). i * W) (k .is) in omega (arith, l, e)
 
-pub floor-high : (x : ℤ) (W : ℕ) {a b s t : ℕ} → 0 < W → Diff x a b → Diff (shrZ x W) s t → a + t * W < b + suc s * W
+pub floor-high : (x : ℤ) (W : ℕ) {a b s t : ℕ} → 0 < W → Diff x a b → Diff (quotient x W) s t → a + t * W < b + suc s * W
 floor-high (pos n) W w h k = let l = lt-div-mul-add {a = n} w in let e = ap (λ (i : ℕ). i * W) (k .is) in omega (arith, l, e)
 floor-high (negsuc n) W w h k = let l = div-mul-le-self n W in let e = ap (λ (i : ℕ). i * W) (k .is) in omega (arith, l, e)
 

@@ -1,1 +1,209 @@
-// Closing: definitions and laws. No code.
+// Closing a ledger: the digits that the interval around its total settles.
+ghost use mathlib.Core.Path.{_≡_};
+ghost use mathlib.Core.List.{_++_};
+ghost use Prim.Native.Nat.{_+_, _*_, _/_, _%_, _^_, _<_, _≤_};
+ghost use lib.Dec.{ltb};
+ghost use lib.IntN.{pos, subℕ};
+ghost use lib.ListN.{length, drop};
+ghost use mathlib.Core.Bool.{cond};
+ghost use Prim.Native.Nat.{ℕ};
+ghost use Rattle.algebra.specs.Test.{allBelow};
+ghost use Rattle.words.specs.Words.{joined};
+ghost use Rattle.series.specs.Names.{formulaOf};
+ghost use Rattle.series.specs.Series.{plus, minus};
+ghost use Rattle.run.specs.Run.{limitsOf};
+ghost use Rattle.run.specs.Answers.{answerOf};
+ghost use Rattle.ledger.specs.Ledger.{posIn, totalIn, bitIn};
+ghost use Rattle.closing.specs.Closing.{Ordered, lowOf, settledAt, closeAnswer, closeBytes};
+ghost use Rattle.interval.specs.Interval as definition;
+ghost use Rattle.interval.specs.Interval.{unitAt};
+ghost use Rattle.interval.specs.Digits.{settled, hexDigit, lowDigits};
+use run::Answer;
+use run::Refusal;
+use series::Series;
+use words::Wide;
+
+// Whether a is below b.
+pub fn is_less(a: Wide, b: Wide) -> bool
+    ensures { λ r. ⌜ r ≡ ltb (joined (a .hi) (a .lo)) (joined (b .hi) (b .lo)) ⌝ }
+{
+    if a.hi == b.hi {
+        a.lo < b.lo
+    } else {
+        a.hi < b.hi
+    }
+}
+
+// Hexadecimal digit i of x, the highest being digit 0.
+pub fn digit_at(x: Wide, i: u64) -> u64
+    requires { ⌜ i < 32 ⌝ }
+    ensures { λ r. ⌜ r ≡ joined (x .hi) (x .lo) / unitAt (i + 1) % 16 ⌝ }
+{
+    if i < 16 {
+        (x.hi >> (60 - 4 * i)) % 16
+    } else {
+        (x.lo >> (124 - 4 * i)) % 16
+    }
+}
+
+// How many of the highest digits two numbers share.
+pub fn shared_digits(a: Wide, b: Wide) -> u64
+    ensures { λ r. ⌜ r ≡ settled (pos (joined (a .hi) (a .lo))) (pos (joined (b .hi) (b .lo))) ⌝ }
+{
+    let mut d: u64 = 0;
+    while d < 32 {
+        if digit_at(a, d) != digit_at(b, d) {
+            return d;
+        }
+        d += 1;
+    }
+    d
+}
+
+// The number of digits that are settled from total - (b + 1) to total + (a + 1). Where the lower end is below 0, or the upper one at
+// 2^128 or above, the two part in the first digit.
+pub fn settled_digits(total: Wide, a: u64, b: u64) -> u64
+    requires { ⌜ (a < 2 ^ 63) × (b < 2 ^ 63) ⌝ }
+    ensures { λ r. ⌜ r ≡ settled (subℕ (joined (total .hi) (total .lo)) (b + 1)) (pos (joined (total .hi) (total .lo) + a + 1)) ⌝ }
+{
+    let below = Wide { hi: 0, lo: b + 1 };
+    if is_less(total, below) {
+        return 0;
+    }
+    let high = words::add(total, Wide { hi: 0, lo: a + 1 });
+    if is_less(high, total) {
+        return 0;
+    }
+    shared_digits(words::sub(total, below), high)
+}
+
+// The character of a digit.
+pub fn hex_digit(v: u64) -> u8
+    requires { ⌜ v < 16 ⌝ }
+    ensures { λ r. ⌜ r ≡ hexDigit v ⌝ }
+{
+    if v < 10 {
+        (48 + v) as u8
+    } else {
+        (55 + v) as u8
+    }
+}
+
+// The d highest digits of x, as characters, over the first d bytes.
+pub fn put_digits(out: &mut [u8], x: Wide, d: usize)
+    requires { ⌜ (d ≤ 32) × (d ≤ length (now out)) ⌝ }
+    ensures { λ _. ⌜ now (out .exit) ≡ lowDigits d (pos (joined (x .hi) (x .lo) / unitAt d)) ++ drop d (now (out .entry)) ⌝ }
+{
+    let mut i: usize = 0;
+    while i < d {
+        out[i] = hex_digit(digit_at(x, i as u64));
+        i += 1;
+    }
+}
+
+// How many terms of a run with k terms in every row are charged: the added ones, or the subtracted ones.
+pub fn charges(f: Series, added: bool, k: u64) -> u64
+    requires { ⌜ k ≤ 2 ^ 60 ⌝ }
+    ensures counts { λ r. ⌜ ((p : ℕ) → r ≡ definition.charges (formulaOf f) (cond added plus minus) p k) ⌝ }
+    ensures small { λ r. ⌜ r < 2 ^ 63 ⌝ }
+{
+    match f {
+        Series::Bellard => {
+            let pairs = 7 * (k / 2);
+            if k % 2 == 0 {
+                return pairs;
+            }
+            if added { pairs + 2 } else { pairs + 5 }
+        }
+    }
+}
+
+// Whether the first c blocks of a row are all marked.
+pub fn row_full(s: &[u8], row: usize, c: usize) -> bool
+    requires { ⌜ (64 + 32 * row ≤ length (now s)) × (c ≤ 256) ⌝ }
+    ensures { λ r. ⌜ r ≡ allBelow c (λ block. bitIn (now (s .entry)) row block) ⌝ }
+{
+    let mut block = 0;
+    while block < c {
+        if !ledger::bit_set(s, row, block) {
+            return false;
+        }
+        block += 1;
+    }
+    true
+}
+
+// Whether the first c blocks of every row are marked.
+pub fn rows_full(s: &[u8], rows: usize, c: usize) -> bool
+    requires { ⌜ (32 + 32 * rows ≤ length (now s)) × (c ≤ 256) ⌝ }
+    ensures { λ r. ⌜ r ≡ allBelow rows (λ row. allBelow c (λ block. bitIn (now (s .entry)) row block)) ⌝ }
+{
+    let mut row = 0;
+    while row < rows {
+        if !row_full(s, row, c) {
+            return false;
+        }
+        row += 1;
+    }
+    true
+}
+
+// The number of digits that a ledger's total settles.
+pub fn settle(f: Series, ledger: &[u8]) -> u64
+    requires { ⌜ Ordered (limitsOf (formulaOf f)) (now ledger) ⌝ }
+    ensures { λ r. ⌜ r ≡ settledAt (formulaOf f) (posIn (now (ledger .entry))) (totalIn (now (ledger .entry))) ⌝ }
+{
+    let k = series::terms::term_count(f, words::get(ledger, 0, 8));
+    let a = charges(f, true, k);
+    let b = charges(f, false, k);
+    settled_digits(words::get_wide(ledger, 16), a, b)
+}
+
+// The lower end of the interval around a ledger's total, where a digit is settled, so that it is not below 0.
+pub fn lower_end(f: Series, ledger: &[u8]) -> Wide
+    requires { ⌜ Ordered (limitsOf (formulaOf f)) (now ledger) × (settledAt (formulaOf f) (posIn (now ledger)) (totalIn (now ledger)) ≡ 0 → ⊥) ⌝ }
+    ensures { λ r. ⌜ lowOf (formulaOf f) (posIn (now (ledger .entry))) (totalIn (now (ledger .entry))) ≡ pos (joined (r .hi) (r .lo)) ⌝ }
+{
+    let k = series::terms::term_count(f, words::get(ledger, 0, 8));
+    let b = charges(f, false, k);
+    let total = words::get_wide(ledger, 16);
+    words::sub(total, Wide { hi: 0, lo: b + 1 })
+}
+
+// What the refusal table says of a closing, its tests in the order of their numbers; or the number of digits.
+pub fn test_closing(f: Series, ledger: &[u8], digits: &[u8]) -> Answer
+    ensures { λ r. ⌜ answerOf r ≡ closeAnswer (formulaOf f) (now (ledger .entry)) (now (digits .entry)) ⌝ }
+{
+    if ledger.len() != ledger::ledger_size(f) {
+        return Answer::Refused(Refusal::WrongSize);
+    }
+    if digits.len() != 32 {
+        return Answer::Refused(Refusal::WrongSize);
+    }
+    if !ledger::in_order(f, ledger) {
+        return Answer::Refused(Refusal::OutOfOrder);
+    }
+    let c = words::get(ledger, 8, 2);
+    if !rows_full(ledger, series::limits::row_count(f), c as usize) {
+        return Answer::Refused(Refusal::Unmarked);
+    }
+    let d = settle(f, ledger);
+    if d == 0 {
+        return Answer::Refused(Refusal::Unsettled);
+    }
+    Answer::Finished(d as u32)
+}
+
+// Closes a ledger: writes the digits that it settles. All tests are done before a byte is written.
+pub fn close(f: Series, ledger: &[u8], digits: &mut [u8]) -> Answer
+    ensures answers { λ r. ⌜ answerOf r ≡ closeAnswer (formulaOf f) (now (ledger .entry)) (now (digits .entry)) ⌝ }
+    ensures leaves { λ _. ⌜ now (digits .exit) ≡ closeBytes (formulaOf f) (now (ledger .entry)) (now (digits .entry)) ⌝ }
+{
+    match test_closing(f, ledger, digits) {
+        Answer::Finished(d) => {
+            put_digits(digits, lower_end(f, ledger), d as usize);
+            Answer::Finished(d)
+        }
+        Answer::Refused(r) => Answer::Refused(r),
+    }
+}

@@ -11,6 +11,7 @@ use lib.Pow.{pow-add, pow-mono}
 use Rattle.algebra.proofs.Booleans.{and-left, and-right}
 use Rattle.series.specs.Series.{Row, skipped, overRows, termCount}
 use Rattle.series.specs.Bellard.{bellard}
+use Rattle.series.proofs.Bellard.{count-enough}
 use Rattle.interval.specs.Interval.{Positive, RestBelowUnit}
 use Rattle.interval.proofs.Tail.{leads, rest-below}
 
@@ -35,11 +36,11 @@ room : (N P Z : ℕ) → N * (P * 512) ≤ Z → N * (362 * P) * 1024 + Z ≤ Z 
 room N P Z h = omega arith
 
 enough : (p : ℕ) → 2 ^ (4 * skipped p) * leads bellard * 2 ^ 10 + 2 ^ (10 * termCount bellard p) ≤ 2 ^ (10 * termCount bellard p) * 2 ^ 10
-unfolding termCount overRows
+unfolding overRows
 enough p =
     let n = 4 * skipped p in
-    let K = (n + 130) / 10 + 1 in
-    let k : n + 131 ≤ 10 * K = omega arith in
+    let K = termCount bellard p in
+    let k : n + 131 ≤ 10 * K = (let h = count-enough p in omega (arith, h)) in
     room (2 ^ n) (2 ^ 122) (2 ^ (10 * K)) (subst (λ (x : ℕ). x ≤ 2 ^ (10 * K)) (pow-add 2 n 131) (pow-mono k))
 
 pub bellard-rest : (p : ℕ) → RestBelowUnit bellard p (termCount bellard p)

@@ -8,7 +8,6 @@ use native.Mathlib.Nat.{zero-add, lt-of-mul-lt-mul-right, mul-le-mul-left, mul-l
 use native.Mathlib.Omega.{arith}
 use lib.Pow.{pow-pos}
 use lib.IntN.{ℤ, pos, subℕ, negℤ, _-ℤ_, _+ℤ_, _*ℤ_}
-use lib.Signed.{shrZ}
 use Rattle.algebra.specs.Whole.{residue, quotient}
 use Rattle.series.specs.Series.{Row, Formula, Side, plus, minus, modulus, size, sideSum, sizesSum}
 use Rattle.interval.specs.Exact.{exactTimes, exactSum, MakesWhole}
@@ -97,14 +96,14 @@ same-quotient U m s t s′ t′ y z X⁺ X⁻ l h l′ h′ =
 -- where low and high have the same quotient by W, with 2 ^ 128 = m W, the quotient of X by D W leaves the same modulo m
 module _ (D m W total a b X⁺ X⁻ : ℕ) (Q : ℤ) (d : 0 < D) (w : 0 < W) (m⁺ : 0 < m) (M : ℕ) (M-is : M ≡ m * W)
     (near : Near D M total a b X⁺ X⁻)
-    (lo : shrZ (subℕ total (b + 1)) W ≡ Q) (hi : shrZ (pos (total + a + 1)) W ≡ Q) where
+    (lo : quotient (subℕ total (b + 1)) W ≡ Q) (hi : quotient (pos (total + a + 1)) W ≡ Q) where
   scaled : (s t : ℕ) → Diff Q s t → s * W + (b + 1) ≤ total + t * W → total + a + 1 + t * W < 0 + suc s * W
-      → residue m (shrZ (subℕ X⁺ X⁻) (D * W)) ≡ residue m Q
+      → residue m (quotient (subℕ X⁺ X⁻) (D * W)) ≡ residue m Q
   scaled s t dq l h =
       let X = subℕ X⁺ X⁻ in
       let U = D * W in
       let u = mul-pos d w in
-      let q′ = shrZ X U in
+      let q′ = quotient X U in
       let s′ = above q′ in
       let t′ = beneath q′ in
       let fl = floor-low X U u (diff-sub X⁺ X⁻) (diff-self q′) in
@@ -116,7 +115,7 @@ module _ (D m W total a b X⁺ X⁻ : ℕ) (Q : ℤ) (d : 0 < D) (w : 0 < W) (m�
       residue-eq m q′ Q (near .z) (near .y) m⁺ (diff-self q′) dq
       (same-quotient U m s t s′ t′ (near .y) (near .z) X⁺ X⁻ (omega (arith, f, lD)) (omega (arith, g, hD)) fl fh)
 
-  pub settles : residue m (shrZ (subℕ X⁺ X⁻) (D * W)) ≡ residue m Q
+  pub settles : residue m (quotient (subℕ X⁺ X⁻) (D * W)) ≡ residue m Q
   settles =
       let s = above Q in
       let t = beneath Q in

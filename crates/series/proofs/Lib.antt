@@ -1,2 +1,6 @@
-pub mod Sides
+pub mod Bellard
 pub mod FewRows
+pub mod Numbers
+pub mod RangeSums
+pub mod Sides
+pub mod Table

@@ -1,3 +1,4 @@
 pub mod Series
 pub mod Bellard
 pub mod Names
+pub mod Fitting

@@ -1,5 +1,7 @@
 // A formula as a value: its rows, the terms of a row and their sums.
 pub mod limits;
+pub mod rows;
+pub mod terms;
 
 // The formulas that the engine works by. `formulaOf` of the specifications says what each stands for.
 pub enum Series {

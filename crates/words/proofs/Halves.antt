@@ -1,11 +1,11 @@
 -- The products of two words by their halves: each fits a word, and the columns with their carries make up the whole product.
 -- Assumes nothing.
-use mathlib.Core.Path.{_≡_, refl, sym, ap, ap₂, _∙_}
+use mathlib.Core.Path.{_≡_, sym, ap, ap₂, _∙_}
 use Prim.Native.Nat.{ℕ, zero, _+_, _*_, _/_, _%_, _^_, _≤_, _<_}
 use native.Mathlib.Nat.{div-add-mod', mod-lt, mul-le-mul}
 use native.Mathlib.Omega.{arith}
-use lib.Arith.{digits-lt, digits-div, digits-mod}
-use Rattle.algebra.proofs.Cong.{Mod, rem, refl-mod, plus, scaled, of-eq, trans, is-%}
+use lib.Arith.{digits-lt, digits-div}
+use Rattle.algebra.proofs.Cong.{Mod, rem, refl-mod, plus, scaled, trans, is-%}
 
 -- each product of two halves is at most (2^32 - 1)^2
 pub record Halves (a b : ℕ) : Type 0 where

@@ -1,11 +1,10 @@
 -- `words::clear` meets its contract: after i turns the first i bytes are 0.
 -- Assumes nothing.
-use Prim.Native.Nat.{ℕ, _≤_, _<_, _-_, _+_}
+use Prim.Native.Nat.{ℕ, _≤_, _<_, _-_}
 use native.Mathlib.Nat.{zero-add}
 use denote.Ref.{now}
 use Rattle.words.proofs.Bytes.{paste-step, paste-all}
 use native.Mathlib.Omega.{arith}
-use native.Mathlib.Numerals.{add-one}
 use mathlib.Core.Path.{_≡_, refl, sym, ap, _∙_}
 use lib.ListN.{length, replicate, set, length-set, length-replicate, getD-replicate}
 use lib.Seq.{paste, paste-zero}

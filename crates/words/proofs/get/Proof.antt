@@ -1,6 +1,6 @@
 -- `words::get` meets its contract: x is the number in the bytes from at + i on, which is below 256 to their count.
 -- Assumes nothing.
-use mathlib.Core.Path.{_≡_, refl, sym, ap, _∙_}
+use mathlib.Core.Path.{_≡_, sym, ap, _∙_}
 use mathlib.Core.List.{List}
 use Prim.Native.Nat.{ℕ, suc, _≤_, _<_, _-_, _+_, _*_, _^_}
 use native.Mathlib.Nat.{add-zero, pow-suc, pow-le-pow-right}

@@ -1,6 +1,6 @@
 -- `words::put` meets its contract: after i turns the first i bytes of x stand there, and the rest is x / 256^i.
 -- Assumes nothing.
-use Prim.Native.Nat.{ℕ, _≤_, _<_, _-_, _+_, _/_, _%_, _^_}
+use Prim.Native.Nat.{ℕ, _≤_, _<_, _-_, _/_, _%_, _^_}
 use native.Mathlib.Nat.{div-one, div-div-eq-div-mul, pow-suc}
 use denote.Ref.{now}
 use Rattle.words.proofs.Bytes.{paste-step, paste-full}

@@ -1,0 +1,143 @@
+// Arithmetic modulo an odd n by Montgomery's method: the whole part of 2^e / n, modulo 2^128.
+// Algorithms 3, 4, 5 and 7 of Takahashi's paper, each in a function of its own.
+ghost use mathlib.Core.Path.{_≡_};
+ghost use Prim.Native.Nat.{ℕ, _+_, _*_, _/_, _%_, _^_, _≤_, _<_};
+ghost use Rattle.words.specs.Words.{joined};
+ghost use Rattle.montgomery.specs.Modulus.{Modulus, montgomery};
+use words::Wide;
+
+// A plain residue: a number below the modulus.
+pub struct Residue(pub u64);
+
+// A number below the modulus n that stands for the one that it is 2^64 times, modulo n.
+pub struct MontgomeryResidue(pub u64);
+
+// One step of Newton's iteration for the inverse of n modulo 2^64: x * (2 - n * x).
+pub fn refine(n: u64, x: u64) -> u64
+    ensures { λ r. ⌜ (r + x * (n * x)) % 2 ^ 64 ≡ 2 * x % 2 ^ 64 ⌝ }
+{
+    let y = words::wrapping_mul(n, x);
+    words::wrapping_mul(x, std::num::wrapping_sub_u64(2, y))
+}
+
+// Algorithm 4: the inverse of n modulo 2^64. (3n) xor 2 is right to 5 bits, and each step doubles that.
+pub fn inverse(n: u64) -> u64
+    requires { ⌜ n % 2 ≡ 1 ⌝ }
+    ensures { λ r. ⌜ n * r % 2 ^ 64 ≡ 1 ⌝ }
+{
+    let x0 = words::wrapping_mul(3, n) ^ 2;
+    let x1 = refine(n, x0);
+    let x2 = refine(n, x1);
+    let x3 = refine(n, x2);
+    refine(n, x3)
+}
+
+// a + b, modulo n. The room that a leaves is known before b, which a squaring has last.
+pub fn sum(a: u64, b: u64, n: u64) -> u64
+    requires { ⌜ (a ≤ n) × (b < n) ⌝ }
+    ensures { λ r. ⌜ r ≡ (a + b) % n ⌝ }
+{
+    let room = n - a;
+    if b < room { a + b } else { b - room }
+}
+
+// Algorithm 3 with both factors x. As mu is - 1 / n, the lower words of x * x and q * n add up to 0 or to 2^64:
+// they carry 1, except where both are 0.
+pub fn square(x: MontgomeryResidue, n: u64, mu: u64) -> MontgomeryResidue
+    requires { ⌜ (x .0 < n) × Modulus n mu ⌝ }
+    ensures { λ r. ⌜ (r .0 < n) × (r .0 * 2 ^ 64 % n ≡ x .0 * x .0 % n) ⌝ }
+{
+    let lo = words::wrapping_mul(x.0, x.0);
+    let hi = words::mul_high(x.0, x.0);
+    let q = words::wrapping_mul(lo, mu);
+    let carried = hi + (lo != 0) as u64;
+    MontgomeryResidue(sum(carried, words::mul_high(q, n), n))
+}
+
+// Twice x, modulo n.
+pub fn double(x: MontgomeryResidue, n: u64) -> MontgomeryResidue
+    requires { ⌜ x .0 < n ⌝ }
+    ensures { λ r. ⌜ r .0 ≡ 2 * x .0 % n ⌝ }
+{
+    MontgomeryResidue(sum(x.0, x.0, n))
+}
+
+// 2 in Montgomery form: 2^65 modulo n, by way of 2^64 - n, which fits a word.
+pub fn start(n: u64) -> MontgomeryResidue
+    requires { ⌜ (0 < n) × (n < 2 ^ 63) ⌝ }
+    ensures { λ r. ⌜ r .0 ≡ montgomery n 2 ⌝ }
+{
+    double(MontgomeryResidue((u64::MAX - n + 1) % n), n)
+}
+
+// Algorithm 5 from its line 5 on: 2^e in Montgomery form. `start` takes the top bit of e, and each bit below it
+// squares, and doubles where it is set.
+pub fn power(e: u64, n: u64, mu: u64) -> MontgomeryResidue
+    requires { ⌜ (0 < e) × Modulus n mu ⌝ }
+    ensures { λ r. ⌜ r .0 ≡ montgomery n (2 ^ e) ⌝ }
+{
+    let mut x = start(n);
+    let mut i: u32 = 63 - u64::leading_zeros(e);
+    while i > 0 {
+        i -= 1;
+        x = square(x, n, mu);
+        if (e >> i) & 1 == 1 {
+            x = double(x, n);
+        }
+    }
+    x
+}
+
+// 2^e modulo n. The Montgomery form of 2^(e - 64) is 2^64 times it, which is the plain residue of 2^e:
+// the one place where a number goes from one struct to the other.
+pub fn residue_of_power(e: u64, n: u64, mu: u64) -> Residue
+    requires { ⌜ (64 < e) × Modulus n mu ⌝ }
+    ensures { λ r. ⌜ r .0 ≡ 2 ^ e % n ⌝ }
+{
+    Residue(power(e - 64, n, mu).0)
+}
+
+// Algorithm 7: the whole part of t / n modulo 2^128, for each multiple t of 2^128 whose residue is r.
+// The paper has 1 / n there; with mu = - 1 / n both products change their sign.
+pub fn divide(r: Residue, n: u64, mu: u64) -> Wide
+    requires { ⌜ (r .0 < n) × Modulus n mu ⌝ }
+    ensures { λ q. ⌜ ((t : ℕ) → t % 2 ^ 128 ≡ 0 → t % n ≡ r .0 → joined (q .hi) (q .lo) ≡ t / n % 2 ^ 128) ⌝ }
+{
+    if r.0 == 0 {
+        return Wide { hi: 0, lo: 0 };
+    }
+    let lo = words::wrapping_mul(r.0, mu);
+    Wide {
+        hi: words::wrapping_mul(words::mul_high(n, lo) + 1, mu),
+        lo,
+    }
+}
+
+// The whole part of 2^e / n, modulo 2^128, where 2^128 divides 2^e.
+pub fn quotient_of_power(e: u64, n: u64) -> Wide
+    requires { ⌜ (n % 2 ≡ 1) × (n < 2 ^ 63) × (128 ≤ e) ⌝ }
+    ensures { λ q. ⌜ joined (q .hi) (q .lo) ≡ 2 ^ e / n % 2 ^ 128 ⌝ }
+{
+    let mu = std::num::wrapping_sub_u64(0, inverse(n));
+    divide(residue_of_power(e, n, mu), n, mu)
+}
+
+// The whole part of 2^e / n, modulo 2^128, by long division a bit at a time: for the few small e.
+pub fn plain_quotient(e: u64, n: u64) -> Wide
+    requires { ⌜ (0 < n) × (n < 2 ^ 63) ⌝ }
+    ensures { λ q. ⌜ joined (q .hi) (q .lo) ≡ 2 ^ e / n % 2 ^ 128 ⌝ }
+{
+    let mut q = Wide { hi: 0, lo: 1 / n };
+    let mut r = 1 % n;
+    let mut i: u64 = 0;
+    while i < e {
+        q = words::add(q, q);
+        r = r + r;
+        if n <= r {
+            q = words::add(q, Wide { hi: 0, lo: 1 });
+            r = r - n;
+        }
+        i += 1;
+    }
+    q
+}

@@ -1,0 +1,54 @@
+-- The numbers of a term in words of 64 bits: 4 n + 130, E, the step's multiples and N all fit, for each k below K.
+-- Assumes nothing.
+use mathlib.Core.Path.{_≡_, ap}
+use Prim.Native.Nat.{ℕ, _+_, _*_, _-_, _/_, _%_, _^_, _≤_, _<_}
+use mathlib.Core.Logic.{_↔_}
+use native.Mathlib.Nat.{mul-le-mul-left, mul-div-le, div-mul-le-self, div-le-self, le-div-iff-mul-le, div-add-mod', le-trans}
+use native.Mathlib.Omega.{arith}
+use lib.Dec.{lit<, lit≤}
+use Rattle.series.specs.Series.{Formula, Row, skipped, divisor, fall, termCount}
+use Rattle.series.specs.Fitting.{Position, Fitting}
+use Rattle.series.specs.Names.{formulaOf}
+use Rattle.series.specs.declared.Series.{Series}
+use Rattle.series.specs.declared.Series.the-variants.{Bellard}
+
+pub last-small : (f : Series) → formulaOf f .last ≤ 2 ^ 60
+last-small Bellard = lit≤ tt
+
+pub step-positive : (f : Series) → 0 < formulaOf f .step
+step-positive Bellard = lit< tt
+
+-- k falls no further than 4 n + 130
+pub fall-small : (F : Formula) (p k : ℕ) → k < termCount F p → fall F k ≤ 4 * skipped p + 130
+unfolding termCount
+fall-small F p k h =
+    let q : k ≤ (4 * skipped p + 130) / F .step = omega arith in
+    le-trans (mul-le-mul-left (F .step) q) (mul-div-le (4 * skipped p + 130) (F .step))
+
+-- K fits with room to spare
+pub count-small : (f : Series) (p : ℕ) → Position (formulaOf f) p → termCount (formulaOf f) p < 2 ^ 63
+unfolding termCount
+count-small f p w = omega (arith, w .high, last-small f, div-le-self (4 * skipped p + 130) (formulaOf f .step))
+
+-- K grows with p
+count-grows : (F : Formula) (p p′ : ℕ) → 0 < F .step → p ≤ p′ → termCount F p ≤ termCount F p′
+unfolding termCount
+count-grows F p p′ s h =
+    let l : (4 * skipped p + 130) / F .step * F .step ≤ 4 * skipped p′ + 130 = omega (arith, div-mul-le-self (4 * skipped p + 130) (F .step)) in
+    let q = le-div-iff-mul-le {x = (4 * skipped p + 130) / F .step} {y = 4 * skipped p′ + 130} s .1 l in
+    omega arith
+
+pub divisor-fits : (f : Series) (p : ℕ) (r : Row) (k : ℕ) → Position (formulaOf f) p → Fitting (formulaOf f) r → k < termCount (formulaOf f) p
+    → divisor r k < 2 ^ 63
+divisor-fits f p r k w t h =
+    let F = formulaOf f in
+    let l : k ≤ termCount F (F .last) = omega (arith, count-grows F p (F .last) (step-positive f) (w .high)) in
+    omega (arith, mul-le-mul-left (r .m) l, t .divisor-small)
+
+pub divisor-odd : (F : Formula) (r : Row) (k : ℕ) → Fitting F r → divisor r k % 2 ≡ 1
+divisor-odd F r k t = odd (r .m) (r .j) (t .m-even) (t .j-odd)
+  where
+    odd : (m j : ℕ) → m % 2 ≡ 0 → j % 2 ≡ 1 → (m * k + j) % 2 ≡ 1
+    odd m j e o =
+        let half : m / 2 * 2 ≡ m = omega arith in
+        omega (arith, ap (λ t. t * k) half)

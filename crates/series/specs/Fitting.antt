@@ -1,0 +1,16 @@
+-- What makes the code's arithmetic on 64-bit words exact: a position in range, and a row whose numbers are odd and small enough.
+use mathlib.Core.Path.{_≡_}
+use Prim.Native.Nat.{ℕ, _+_, _*_, _%_, _^_, _≤_, _<_}
+use Rattle.series.specs.Series.{Formula, Row, divisor, termCount}
+
+-- p is a position of the formula's runs
+pub record Position (F : Formula) (p : ℕ) : Type 0 where
+  pub low : 1 ≤ p
+  pub high : p ≤ F .last
+
+-- every N = m k + j of the row is odd, and below 2 ^ 63 in all runs; 4 n + 128 + l stays small
+pub record Fitting (F : Formula) (r : Row) : Type 0 where
+  pub m-even : r .m % 2 ≡ 0
+  pub j-odd : r .j % 2 ≡ 1
+  pub lead-small : r .lead ≤ 130
+  pub divisor-small : divisor r (termCount F (F .last)) < 2 ^ 63

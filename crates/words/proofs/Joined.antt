@@ -1,0 +1,9 @@
+-- A number of two words is below 2 ^ 128.
+-- Assumes nothing.
+use Prim.Native.Nat.{ℕ, _^_, _<_}
+use lib.Arith.{digits-lt}
+use Rattle.words.specs.Words.{joined}
+
+pub joined-lt : (hi lo : ℕ) → hi < 2 ^ 64 → lo < 2 ^ 64 → joined hi lo < 2 ^ 128
+unfolding joined
+joined-lt hi lo h l = digits-lt h l
