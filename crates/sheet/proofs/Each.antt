@@ -28,13 +28,20 @@ every-each f (t ∷ ts) =
     ap (λ (b : Bool). f t && b) (every-each f ts) ∙ sym (below-front (length ts) (λ j. f (getD (t ∷ ts) j nothing)))
 
 -- each but the last is below the next
-pub ascending-each : (t : Entry) (ts : List Entry)
+ascending-each : (t : Entry) (ts : List Entry)
     → ascending (t ∷ ts) ≡ allBelow (length ts) (λ j. ltb (key (getD (t ∷ ts) j nothing)) (key (getD ts j nothing)))
 unfolding ascending allBelow
 ascending-each t [] = refl
 ascending-each t (u ∷ us) =
     ap (λ (b : Bool). ltb (key t) (key u) && b) (ascending-each u us)
     ∙ sym (below-front (length us) (λ j. ltb (key (getD (t ∷ u ∷ us) j nothing)) (key (getD (u ∷ us) j nothing))))
+
+pub ascending-all : (l : List Entry) (n : ℕ) → length l ≡ suc n
+    → ascending l ≡ allBelow n (λ j. ltb (key (getD l j nothing)) (key (getD l (suc j) nothing)))
+ascending-all [] n h = absurd (omega arith)
+ascending-all (t ∷ ts) n h =
+    let size : length ts ≡ n = omega arith in
+    ascending-each t ts ∙ ap (λ (m : ℕ). allBelow m (λ j. ltb (key (getD (t ∷ ts) j nothing)) (key (getD ts j nothing)))) size
 
 -- ---- over the entries of a sheet
 
@@ -61,14 +68,9 @@ abbrev pub rises : List ℕ → ℕ → Bool
 rises s j = ltb (key (entry s j)) (key (entry s (j + 1)))
 
 pub ascending-entries : (s : List ℕ) (n : ℕ) → ascending (entriesFrom s 0 (suc n)) ≡ allBelow n (rises s)
-unfolding entriesFrom
 ascending-entries s n =
-    ascending-each (entry s 0) (entriesFrom s 1 n)
-    ∙ ap (λ (m : ℕ). allBelow m (λ j. ltb (key (getD (entriesFrom s 0 (suc n)) j nothing)) (key (getD (entriesFrom s 1 n) j nothing)))) (count-entries s n 1)
-    ∙ all-ext n _ _ (λ j h. rw (entry-at s (suc n) j (omega arith), entry-from s n 1 j h, one j) refl)
-  where
-    one : (j : ℕ) → 1 + j ≡ j + 1
-    one j = omega arith
+    ascending-all (entriesFrom s 0 (suc n)) n (count-entries s (suc n) 0)
+    ∙ all-ext n _ _ (λ j h. rw (entry-at s (suc n) j (omega arith), entry-at s (suc n) (suc j) (omega arith), add-one j) refl)
 
 -- ---- the loop that compares neighbours
 

@@ -34,15 +34,15 @@ use Rattle.sheet.proofs.Sheets.{Fitting, pos-read, blocks-read, count-r
 
 -- ---- what the writer has tested
 
-record Taken (F : Formula) (p C : ℕ) (list out : List ℕ) : Type 0 where
-  even : length list % 2 ≡ 0
-  short : length list ≤ listMost (limitsOf F)
-  room : sheetLength (length list / 2) ≤ length out
-  range : inRange (limitsOf F) p C ≡ true
-  ascends : ascending (listed F p C list) ≡ true
-  tickets : allTickets (limitsOf F) C (listed F p C list) ≡ true
+pub record Taken (F : Formula) (p C : ℕ) (list out : List ℕ) : Type 0 where
+  pub even : length list % 2 ≡ 0
+  pub short : length list ≤ listMost (limitsOf F)
+  pub room : sheetLength (length list / 2) ≤ length out
+  pub range : inRange (limitsOf F) p C ≡ true
+  pub ascends : ascending (listed F p C list) ≡ true
+  pub tickets : allTickets (limitsOf F) C (listed F p C list) ≡ true
 
-taken-of : (F : Formula) (p C : ℕ) (list out : List ℕ) → writeRefusal F p C list out ≡ 0 → Taken F p C list out
+pub taken-of : (F : Formula) (p C : ℕ) (list out : List ℕ) → writeRefusal F p C list out ≡ 0 → Taken F p C list out
 unfolding writeRefusal
 taken-of F p C list out e =
     let e₁ = passes 0 _ _ e in

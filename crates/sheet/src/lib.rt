@@ -1,4 +1,5 @@
-// Sheets: reading and posting them, and the tests of their bytes.
+// Sheets: writing, reading and posting them.
 pub mod contents;
 pub mod posting;
 pub mod reading;
+pub mod writing;
