@@ -22,8 +22,7 @@ use Rattle.ledger.proofs.Entering.{bit-kept}
 use Rattle.sheet.specs.Sheet.{sheetCount, rowIn, blockIn, sumIn, entriesFrom, entries, every, key, ascending}
 use Rattle.sheet.specs.Tests.{inside, unset, enterable}
 use Rattle.sheet.specs.Calls.{enterEntry}
-use Rattle.sheet.proofs.Each.{entry, every-entries, rises, ascending-entries}
-use Rattle.sheet.proofs.Over.{entries-next}
+use Rattle.sheet.proofs.Each.{entry, entries-next, every-entries, rises, ascending-entries}
 
 -- ---- the bits, entry by entry
 

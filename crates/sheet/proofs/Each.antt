@@ -2,7 +2,7 @@
 -- Assumes nothing.
 use mathlib.Core.Path.{_≡_, refl, sym, ap, _∙_}
 use mathlib.Core.Bool.{Bool, true, false, _&&_}
-use mathlib.Core.List.{List, [], _∷_}
+use mathlib.Core.List.{List, [], _∷_, _++_}
 use Prim.Native.Nat.{ℕ, zero, suc, _+_, _*_, _<_, _≤_}
 use native.Mathlib.Nat.{zero-add, add-zero, add-suc, suc-add, le-of-suc-le-suc, not-suc-le-zero}
 use native.Mathlib.Numerals.{add-one}
@@ -56,6 +56,18 @@ entry-from s (suc n) i (suc j) h = entry-from s n (suc i) j (le-of-suc-le-suc h)
 
 pub entry-at : (s : List ℕ) (n j : ℕ) → j < n → getD (entriesFrom s 0 n) j nothing ≡ entry s j
 entry-at s n j h = entry-from s n 0 j h ∙ ap (entry s) (zero-add j)
+
+-- one entry more
+entries-from-next : (s : List ℕ) (n i : ℕ) → entriesFrom s i (suc n) ≡ entriesFrom s i n ++ (entry s (i + n) ∷ [])
+unfolding entriesFrom
+entries-from-next s zero i = ap (λ (k : ℕ). entry s k ∷ []) (sym (add-zero i))
+entries-from-next s (suc n) i =
+    ap (λ (l : List Entry). entry s i ∷ l)
+    (entries-from-next s n (suc i) ∙ ap (λ (k : ℕ). entriesFrom s (suc i) n ++ (entry s k ∷ [])) (suc-add i n ∙ sym (add-suc i n)))
+
+pub entries-next : (s : List ℕ) (n : ℕ) → entriesFrom s 0 (n + 1) ≡ entriesFrom s 0 n ++ (entry s n ∷ [])
+entries-next s n =
+    ap (entriesFrom s 0) (add-one n) ∙ entries-from-next s n 0 ∙ ap (λ (k : ℕ). entriesFrom s 0 n ++ (entry s k ∷ [])) (zero-add n)
 
 pub every-entries : (f : Entry → Bool) (s : List ℕ) (n : ℕ) → every f (entriesFrom s 0 n) ≡ allBelow n (λ j. f (entry s j))
 every-entries f s n =

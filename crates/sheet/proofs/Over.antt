@@ -1,21 +1,20 @@
--- Loops that write an output entry by entry: what is written so far, over the output as it was found.
+-- Loops that write an output entry by entry: after i turns the text of the first i entries stands over the output as it was found.
+-- One law for lists, contents and bodies.
 -- Assumes nothing.
 use mathlib.Core.Path.{_≡_, refl, sym, ap, ap₂, _∙_}
 use mathlib.Core.List.{List, [], _∷_, _++_, append-nil, append-assoc}
-use Prim.Native.Nat.{ℕ, zero, suc, _+_, _*_, _≤_}
-use native.Mathlib.Nat.{add-zero, add-suc, suc-add, zero-add}
+use Prim.Native.Nat.{ℕ, zero, suc, _+_, _*_, _/_, _%_, _<_, _≤_}
 use native.Mathlib.Numerals.{add-one}
 use native.Mathlib.Omega.{arith}
-use lib.ListN.{length, take, drop, length-append}
-use lib.Seq.{take-at, drop-at, drop-drop}
-use Rattle.words.specs.Bytes.{bytesOf, field}
-use Rattle.words.proofs.Bytes.{length-bytes}
+use lib.ListN.{length, getD, take, drop, length-append, length-take, take-append-drop}
+use lib.Seq.{take-at, take-all, take-suc, drop-at, drop-drop, length-take-le}
+use Rattle.words.specs.Bytes.{bytesOf}
 use Rattle.ledger.specs.Plain.{Entry}
-use Rattle.sheet.specs.Sheet.{sheetCount, sumIn, entriesFrom, key, listOf, bodiesOf}
+use Rattle.sheet.specs.Sheet.{key, contentsOf, bodiesOf, listOf}
 use Rattle.sheet.specs.Calls.{over}
-use Rattle.sheet.proofs.Many.{count-entries}
+use Rattle.sheet.proofs.Sheets.{length-contents}
 use Rattle.sheet.proofs.RoundTrip.{length-list, length-bodies}
-use Rattle.sheet.proofs.Each.{entry}
+use Rattle.sheet.proofs.Each.{nothing}
 
 -- x written after what is written already, which is n bytes
 pub write-next : (done old l x : List ℕ) (n w : ℕ) → length done ≡ n → l ≡ done ++ drop n old
@@ -24,75 +23,94 @@ write-next done old l x n w h e =
     ap₂ (λ (a b : List ℕ). a ++ x ++ b) (ap (take n) e ∙ take-at done (drop n old) n h)
     (sym (drop-drop w n l) ∙ ap (drop w) (ap (drop n) e ∙ drop-at done (drop n old) n h) ∙ drop-drop w n old)
 
--- one entry more
-entries-from-next : (s : List ℕ) (n i : ℕ) → entriesFrom s i (suc n) ≡ entriesFrom s i n ++ (entry s (i + n) ∷ [])
-unfolding entriesFrom
-entries-from-next s zero i = ap (λ (k : ℕ). entry s k ∷ []) (sym (add-zero i))
-entries-from-next s (suc n) i =
-    ap (λ (l : List Entry). entry s i ∷ l)
-    (entries-from-next s n (suc i) ∙ ap (λ (k : ℕ). entriesFrom s (suc i) n ++ (entry s k ∷ [])) (suc-add i n ∙ sym (add-suc i n)))
+-- ---- texts that are made entry by entry, w bytes for each
 
-pub entries-next : (s : List ℕ) (n : ℕ) → entriesFrom s 0 (n + 1) ≡ entriesFrom s 0 n ++ (entry s n ∷ [])
-entries-next s n =
-    ap (entriesFrom s 0) (add-one n) ∙ entries-from-next s n 0 ∙ ap (λ (k : ℕ). entriesFrom s 0 n ++ (entry s k ∷ [])) (zero-add n)
+pub record Entrywise (text : List Entry → List ℕ) (one : Entry → List ℕ) (w : ℕ) : Type 0 where
+  pub none : text [] ≡ []
+  pub next : (ts : List Entry) (t : Entry) → text (ts ++ (t ∷ [])) ≡ text ts ++ one t
+  pub size : (ts : List Entry) → length (text ts) ≡ w * length ts
 
-pub list-next : (ts : List Entry) (t : Entry) → listOf (ts ++ (t ∷ [])) ≡ listOf ts ++ bytesOf 2 (key t)
+list-next : (ts : List Entry) (t : Entry) → listOf (ts ++ (t ∷ [])) ≡ listOf ts ++ bytesOf 2 (key t)
 unfolding listOf
 list-next [] t = append-nil (bytesOf 2 (key t))
 list-next (u ∷ ts) t =
     ap (λ (l : List ℕ). bytesOf 2 (key u) ++ l) (list-next ts t) ∙ sym (append-assoc (bytesOf 2 (key u)) (listOf ts) (bytesOf 2 (key t)))
 
-pub bodies-next : (ts : List Entry) (t : Entry) → bodiesOf (ts ++ (t ∷ [])) ≡ bodiesOf ts ++ bytesOf 16 (t .sum)
+pub lists : Entrywise listOf (λ t. bytesOf 2 (key t)) 2
+unfolding listOf
+lists = record { none = refl; next = list-next; size = length-list }
+
+bodies-next : (ts : List Entry) (t : Entry) → bodiesOf (ts ++ (t ∷ [])) ≡ bodiesOf ts ++ bytesOf 16 (t .sum)
 unfolding bodiesOf
 bodies-next [] t = append-nil (bytesOf 16 (t .sum))
 bodies-next (u ∷ ts) t =
     ap (λ (l : List ℕ). bytesOf 16 (u .sum) ++ l) (bodies-next ts t) ∙ sym (append-assoc (bytesOf 16 (u .sum)) (bodiesOf ts) (bytesOf 16 (t .sum)))
 
--- ---- the list that the reader writes
+pub bodies : Entrywise bodiesOf (λ t. bytesOf 16 (t .sum)) 16
+unfolding bodiesOf
+bodies = record { none = refl; next = bodies-next; size = length-bodies }
 
--- after i turns
-abbrev pub listed-to : List ℕ → List ℕ → ℕ → List ℕ
-listed-to s old i = listOf (entriesFrom s 0 i) ++ drop (2 * i) old
+-- the four bytes of an entry of the contents
+abbrev pub line : ℕ → ℕ → List ℕ
+line row block = row ∷ 0 ∷ bytesOf 2 block
 
-size-of-list : (s : List ℕ) (i : ℕ) → length (listOf (entriesFrom s 0 i)) ≡ 2 * i
-size-of-list s i = length-list (entriesFrom s 0 i) ∙ ap (λ (n : ℕ). 2 * n) (count-entries s i 0)
+contents-next : (ts : List Entry) (t : Entry) → contentsOf (ts ++ (t ∷ [])) ≡ contentsOf ts ++ line (t .row) (t .block)
+unfolding contentsOf
+contents-next [] t = append-nil (line (t .row) (t .block))
+contents-next (u ∷ ts) t =
+    ap (λ (l : List ℕ). line (u .row) (u .block) ++ l) (contents-next ts t)
+    ∙ sym (append-assoc (line (u .row) (u .block)) (contentsOf ts) (line (t .row) (t .block)))
 
-pub list-start : (s old : List ℕ) → old ≡ listed-to s old 0
-unfolding entriesFrom listOf
-list-start s old = refl
+pub contents : Entrywise contentsOf (λ t. line (t .row) (t .block)) 4
+unfolding contentsOf
+contents = record { none = refl; next = contents-next; size = length-contents }
 
-pub list-turn : (s old l m : List ℕ) (i k : ℕ) → k ≡ key (entry s i) → l ≡ listed-to s old i
-    → m ≡ take (2 * i) l ++ bytesOf 2 k ++ drop (2 * i + 2) l → m ≡ listed-to s old (i + 1)
-list-turn s old l m i k ek el em =
-    let at : 2 * i + 2 ≡ 2 * (i + 1) = omega arith in
-    em ∙ write-next (listOf (entriesFrom s 0 i)) old l (bytesOf 2 k) (2 * i) 2 (size-of-list s i) el
-    ∙ ap₂ (λ (a : List ℕ) (n : ℕ). a ++ drop n old)
-    (ap (λ (n : ℕ). listOf (entriesFrom s 0 i) ++ bytesOf 2 n) ek ∙ sym (list-next (entriesFrom s 0 i) (entry s i)) ∙ ap listOf (sym (entries-next s i))) at
+pub line-is : (row block : ℕ) → row < 256 → bytesOf 4 (row + 65536 * block) ≡ line row block
+unfolding bytesOf
+line-is row block h =
+    let x = row + 65536 * block in
+    let q : x / 256 ≡ 256 * block = omega arith in
+    let z : 256 * block % 256 ≡ 0 = omega arith in
+    let y : 256 * block / 256 ≡ block = omega arith in
+    let a : x % 256 ≡ row = omega arith in
+    let b : x / 256 % 256 ≡ 0 = ap (λ (n : ℕ). n % 256) q ∙ z in
+    let c : x / 256 / 256 ≡ block = ap (λ (n : ℕ). n / 256) q ∙ y in
+    rw (a, b, c) refl
 
-pub list-end : (s old l : List ℕ) (e : ℕ) → l ≡ listed-to s old e → l ≡ over (listOf (entriesFrom s 0 e)) old
-list-end s old l e el = el ∙ ap (λ (n : ℕ). listOf (entriesFrom s 0 e) ++ drop n old) (sym (size-of-list s e))
+-- ---- the loop
 
--- ---- the sums that the reader writes
+-- the text of the first i entries of ts over what was found, from `base` on
+abbrev pub over-to : (List Entry → List ℕ) → ℕ → List Entry → List ℕ → ℕ → ℕ → List ℕ
+over-to text w ts old base i = take base old ++ text (take i ts) ++ drop (base + w * i) old
 
-abbrev pub summed-to : List ℕ → List ℕ → ℕ → List ℕ
-summed-to s old i = bodiesOf (entriesFrom s 0 i) ++ drop (16 * i) old
+module _ {text : List Entry → List ℕ} {one : Entry → List ℕ} {w : ℕ} (k : Entrywise text one w) (ts : List Entry) (old : List ℕ) (base : ℕ) where
+  pub start : old ≡ over-to text w ts old base 0
+  start =
+      let at : base + w * 0 ≡ base = omega arith in
+      sym (ap₂ (λ (a : List ℕ) (n : ℕ). take base old ++ a ++ drop n old) (k .none) at
+      ∙ ap (λ (a : List ℕ). a ++ drop base old) (append-nil (take base old)) ∙ take-append-drop base old)
 
-size-of-bodies : (s : List ℕ) (i : ℕ) → length (bodiesOf (entriesFrom s 0 i)) ≡ 16 * i
-size-of-bodies s i = length-bodies (entriesFrom s 0 i) ∙ ap (λ (n : ℕ). 16 * n) (count-entries s i 0)
+  pub turn : (l m x : List ℕ) (i n : ℕ) → base ≤ length old → i < length ts → n ≡ base + w * i → x ≡ one (getD ts i nothing)
+      → l ≡ over-to text w ts old base i → m ≡ take n l ++ x ++ drop (n + w) l → m ≡ over-to text w ts old base (i + 1)
+  turn l m x i n room h en ex el em =
+      let done = take base old ++ text (take i ts) in
+      let few : length (take i ts) ≡ i = length-take-le i ts (omega arith) in
+      let long : length done ≡ n =
+      length-append (take base old) (text (take i ts)) ∙ ap₂ _+_ (length-take-le base old room) (k .size (take i ts) ∙ ap (λ (j : ℕ). w * j) few) ∙ sym en in
+      let at : n + w ≡ base + w * (i + 1) = omega arith in
+      let more : text (take i ts) ++ x ≡ text (take (i + 1) ts) =
+      ap (λ (y : List ℕ). text (take i ts) ++ y) ex ∙ sym (k .next (take i ts) (getD ts i nothing))
+      ∙ ap text (sym (take-suc ts i nothing h) ∙ ap (λ (j : ℕ). take j ts) (sym (add-one i))) in
+      em ∙ write-next done old l x n w long (el ∙ ap (λ (j : ℕ). done ++ drop j old) (sym en))
+      ∙ ap₂ (λ (a : List ℕ) (j : ℕ). a ++ drop j old)
+      (append-assoc (take base old) (text (take i ts)) x ∙ ap (λ (y : List ℕ). take base old ++ y) more) at
 
-pub sums-start : (s old : List ℕ) → old ≡ summed-to s old 0
-unfolding entriesFrom bodiesOf
-sums-start s old = refl
+  pub finish : (l : List ℕ) (i : ℕ) → length ts ≡ i → l ≡ over-to text w ts old base i → l ≡ take base old ++ text ts ++ drop (base + w * i) old
+  finish l i h e = e ∙ ap (λ (us : List Entry). take base old ++ text us ++ drop (base + w * i) old) (take-all i ts (omega arith))
 
-pub sums-turn : (s old l m : List ℕ) (e i x : ℕ) → e ≡ sheetCount s → x ≡ field s (16 + 4 * e + 16 * i) 16 → l ≡ summed-to s old i
-    → m ≡ take (16 * i) l ++ bytesOf 16 x ++ drop (16 * i + 16) l → m ≡ summed-to s old (i + 1)
-unfolding sumIn
-sums-turn s old l m e i x ee ex el em =
-    let at : 16 * i + 16 ≡ 16 * (i + 1) = omega arith in
-    let sum : x ≡ sumIn s i = ex ∙ ap (λ (n : ℕ). field s (16 + 4 * n + 16 * i) 16) ee in
-    em ∙ write-next (bodiesOf (entriesFrom s 0 i)) old l (bytesOf 16 x) (16 * i) 16 (size-of-bodies s i) el
-    ∙ ap₂ (λ (a : List ℕ) (n : ℕ). a ++ drop n old)
-    (ap (λ (n : ℕ). bodiesOf (entriesFrom s 0 i) ++ bytesOf 16 n) sum ∙ sym (bodies-next (entriesFrom s 0 i) (entry s i)) ∙ ap bodiesOf (sym (entries-next s i))) at
-
-pub sums-end : (s old l : List ℕ) (e : ℕ) → l ≡ summed-to s old e → l ≡ over (bodiesOf (entriesFrom s 0 e)) old
-sums-end s old l e el = el ∙ ap (λ (n : ℕ). bodiesOf (entriesFrom s 0 e) ++ drop n old) (sym (size-of-bodies s e))
+-- from the front of the output on
+pub finish-front : {text : List Entry → List ℕ} {one : Entry → List ℕ} {w : ℕ} (k : Entrywise text one w) (ts : List Entry) (old l : List ℕ) (i : ℕ)
+    → length ts ≡ i → l ≡ over-to text w ts old 0 i → l ≡ over (text ts) old
+finish-front {text} {one} {w} k ts old l i h e =
+    let at : 0 + w * i ≡ w * i = omega arith in
+    finish k ts old 0 l i h e ∙ ap (λ (n : ℕ). text ts ++ drop n old) (at ∙ ap (λ (n : ℕ). w * n) (sym h) ∙ sym (k .size ts))

@@ -1,22 +1,48 @@
 -- `sheet::reading::put_list` meets its contract: after i turns the list of i tickets stands over the output.
 -- Assumes nothing.
-use mathlib.Core.Path.{_≡_, refl, sym, _∙_}
-use Prim.Native.Nat.{_≤_, _-_}
+use mathlib.Core.Path.{_≡_, refl, sym, ap, _∙_}
+use mathlib.Core.List.{List, _++_}
+use Prim.Native.Nat.{ℕ, _+_, _*_, _≤_, _<_, _-_}
+use native.Mathlib.Nat.{zero-add}
 use native.Mathlib.Omega.{arith}
 use borrow.Author.Needs.{needs}
-use lib.ListN.{length}
-use Rattle.sheet.proofs.Over.{listed-to, list-start, list-turn, list-end}
+use denote.Ref.{now}
+use lib.ListN.{length, take, drop}
+use Rattle.words.specs.Bytes.{bytesOf}
+use Rattle.sheet.specs.Sheet.{entriesFrom, key, listOf}
+use Rattle.sheet.specs.Calls.{over}
+use Rattle.sheet.proofs.Many.{count-entries}
+use Rattle.sheet.proofs.Each.{entry, entry-at}
+use Rattle.sheet.proofs.Over.{lists, over-to, start, turn, finish-front}
 use Rattle.sheet.proofs.reading.put_list.Statement.{statement}
 use Rattle.sheet.proofs.reading.put_list.Tie as tie
 
+module _ (s old : List ℕ) (e : ℕ) where
+  abbrev listed-to : ℕ → List ℕ
+  listed-to i = over-to listOf 2 (entriesFrom s 0 e) old 0 i
+
+  first : old ≡ listed-to 0
+  first = start lists (entriesFrom s 0 e) old 0
+
+  next : (l m : List ℕ) (i k : ℕ) → i < e → k ≡ key (entry s i) → l ≡ listed-to i
+      → m ≡ take (2 * i) l ++ bytesOf 2 k ++ drop (2 * i + 2) l → m ≡ listed-to (i + 1)
+  next l m i k h ek el em =
+      turn lists (entriesFrom s 0 e) old 0 l m (bytesOf 2 k) i (2 * i) (omega arith) (omega (arith, count-entries s e 0)) (sym (zero-add (2 * i)))
+      (ap (bytesOf 2) (ek ∙ ap key (sym (entry-at s e i h)))) el em
+
+  last : (l : List ℕ) (i : ℕ) → i ≡ e → l ≡ listed-to i → l ≡ over (listOf (entriesFrom s 0 e)) old
+  last l i q el = finish-front lists (entriesFrom s 0 e) old l i (count-entries s e 0 ∙ sym q) el
+
 abbrev Inv-loop : tie.InvT-loop
-Inv-loop s e list₀ i₀ list i = (i ≤ e) × (length list ≡ length list₀) × (list ≡ listed-to s list₀ i)
+Inv-loop s e list₀ i₀ list i = (i ≤ e) × (length list ≡ length list₀) × (list ≡ listed-to s list₀ e i)
 
 abbrev μ-loop : tie.MeasureT-loop
 μ-loop s e list₀ i₀ list i = e - i
 
 loop-holds : tie.Need-loop-holds Inv-loop μ-loop
-loop-holds c = (omega arith, refl, list-start _ _)
+loop-holds c =
+    let args = c .before .before .args in
+    (omega arith, refl, first (now (args .s)) (now (args .list)) (args .e))
 
 mul-put : tie.Need-mul-put Inv-loop μ-loop
 mul-put c = omega arith
@@ -36,10 +62,12 @@ loop-less c = omega arith
 loop-again : tie.Need-loop-again Inv-loop μ-loop
 loop-again c =
     let put = c .before .before in
-    let start = put .before .before .before .before in (
+    let test = put .before .before .before in
+    let loop = test .before in
+    let args = loop .before .before .before .args in (
       omega arith,
       search needs,
-      list-turn _ _ _ _ _ _ (put .before .key .ensures) (start .loop .inv .2) (put .put .ensures),
+      next (now (args .s)) (now (args .list)) (args .e) _ _ _ _ (test .loop-test .taken) (put .before .key .ensures) (loop .loop .inv .2) (put .put .ensures),
     )
 
 same-length : tie.Need-same-length Inv-loop μ-loop
@@ -47,8 +75,9 @@ same-length c = c .before .loop .inv .1
 
 returns : tie.Need-returns Inv-loop μ-loop
 returns c =
-    let e : c .before .loop .i ≡ c .before .before .before .before .args .e = omega arith in
-    list-end _ _ _ _ (rw e at (c .before .loop .inv .2))
+    let args = c .before .before .before .before .args in
+    let e : c .before .loop .i ≡ args .e = omega arith in
+    last (now (args .s)) (now (args .list)) (args .e) _ _ e (c .before .loop .inv .2)
 
 pub put-list-spec : {M : Type 1} → statement M
 put-list-spec =

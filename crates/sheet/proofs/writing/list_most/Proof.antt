@@ -1,4 +1,8 @@
+-- `sheet::writing::list_most` meets its contract: a formula has few rows.
+-- Assumes nothing.
+use native.Mathlib.Omega.{arith}
 use borrow.Author.Needs.{needs}
+use Rattle.series.proofs.FewRows.{few-rows}
 use Rattle.sheet.proofs.writing.list_most.Statement.{statement}
 use Rattle.sheet.proofs.writing.list_most.Tie as tie
 
@@ -6,7 +10,7 @@ row-count-requires : tie.Need-row-count-requires
 row-count-requires c κs = search needs
 
 mul-result : tie.Need-mul-result
-mul-result c = ?
+mul-result c = omega (arith, few-rows (c .before .args .f))
 
 returns : tie.Need-returns
 returns c = search needs
