@@ -8,3 +8,4 @@ pub mod Over
 pub mod Admitting
 pub mod PostTests
 pub mod Pairs
+pub mod WriteTests

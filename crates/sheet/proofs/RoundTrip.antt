@@ -81,7 +81,7 @@ unfolding bodiesOf bytesOf
 length-bodies [] = refl
 length-bodies (t ∷ ts) = let h = length-bodies ts in omega (arith, h)
 
-length-sheet : (p C : ℕ) (ts : List Entry) → length (sheetOf p C ts) ≡ sheetLength (length ts)
+pub length-sheet : (p C : ℕ) (ts : List Entry) → length (sheetOf p C ts) ≡ sheetLength (length ts)
 unfolding sheetOf bytesOf
 length-sheet p C ts =
     let c = length-contents ts in

@@ -2,7 +2,6 @@
 use run::Answer;
 use run::Refusal;
 use series::Series;
-
 ghost use mathlib.Core.Path.{_≡_};
 ghost use mathlib.Core.Bool.{true};
 ghost use mathlib.Core.List.{_++_};

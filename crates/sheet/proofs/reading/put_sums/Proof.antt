@@ -83,7 +83,7 @@ loop-again c =
       omega arith,
       search needs,
       next (now (given .args .s)) (now (given .args .sums)) (given .args .e) _ _ _ _ (given .pre .0) (test .loop-test .taken) (put .before .get-wide .ensures)
-      (loop .loop .inv .2) (put .put-wide .ensures),
+          (loop .loop .inv .2) (put .put-wide .ensures),
     )
 
 same-length : tie.Need-same-length Inv-loop μ-loop

@@ -114,7 +114,7 @@ loop-again c =
       omega arith,
       search needs,
       next (formulaOf (args .f)) (args .p) (args .c) (now (args .list)) (now (args .out)) (args .e) (given .pre .0) _ _ _ _ (given .pre .1)
-      (test .loop-test .taken) (work .sum .ensures) (loop .loop .inv .2) (put .put-wide .ensures),
+          (test .loop-test .taken) (work .sum .ensures) (loop .loop .inv .2) (put .put-wide .ensures),
     )
 
 same-length : tie.Need-same-length Inv-loop μ-loop

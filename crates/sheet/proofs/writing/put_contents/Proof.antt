@@ -104,7 +104,7 @@ loop-again c =
       omega arith,
       search needs,
       next (now (given .args .list)) (now (given .args .out)) (given .args .e) (given .pre .0) _ _ _ (omega arith) (test .loop-test .taken)
-      (read .shared-slice-known3 .given (2 * loop .loop .i + 1) .fits) (loop .loop .inv .2) (put .put .ensures),
+          (read .shared-slice-known3 .given (2 * loop .loop .i + 1) .fits) (loop .loop .inv .2) (put .put .ensures),
     )
 
 same-length : tie.Need-same-length Inv-loop μ-loop
