@@ -1,0 +1,3 @@
+// The calls of the C interface, a thin function for each: only these name a formula.
+pub mod answers;
+pub mod work;
