@@ -21,6 +21,7 @@ CALLS = work open post sheet_write sheet_read sheet_post close
 PROVED = target/staticlib/libengine.a
 STANDIN = build/standin/libengine.a
 ENGINE = $(PROVED)
+CLOSER = target/bin/closer
 # Programs linked with the one are kept apart from those linked with the other.
 OUT = build/$(if $(filter $(PROVED),$(ENGINE)),engine,standin)
 
@@ -47,10 +48,11 @@ ALONE = 'bash tests/header.sh build' 'build/test_reference' 'bash tests/mutants/
 WITH_ENGINE = 'bash tests/symbols.sh $(ENGINE) $(CALLS)' $(foreach t,$(TESTS),'$(OUT)/test_$(t) $(SEED) $(COUNT)')
 WITH_CLOSING = 'bash tests/examples.sh $(OUT)/minimal $(OUT)/acceptance' \
 	'$(OUT)/published 1000000' '$(OUT)/published overlap 1000000' \
-	'bash tests/farm.sh $(OUT)/farm $(OUT)/farm-test' 'bash tests/install.sh $(CURDIR)/$(OUT)/install'
+	'bash tests/farm.sh $(OUT)/farm $(OUT)/farm-test' 'bash tests/install.sh $(CURDIR)/$(OUT)/install' \
+	$(if $(filter $(PROVED),$(ENGINE)),'bash tests/closer.sh $(CLOSER)')
 COMMANDS = $(ALONE) $(if $(HAVE_ENGINE),$(WITH_ENGINE) $(if $(CLOSES),$(WITH_CLOSING)))
 BUILT = build/test_reference $(TESTS:%=build/mutants/test_%) \
-	$(if $(HAVE_ENGINE),$(TESTS:%=$(OUT)/test_%) $(if $(CLOSES),$(addprefix $(OUT)/,minimal acceptance published farm)))
+	$(if $(HAVE_ENGINE),$(TESTS:%=$(OUT)/test_%) $(if $(CLOSES),$(addprefix $(OUT)/,minimal acceptance published farm) $(if $(filter $(PROVED),$(ENGINE)),$(CLOSER))))
 
 .PHONY: digits test check bench published published-long install vectors clean standin
 
@@ -89,9 +91,15 @@ vectors:
 clean:
 	rm -rf build target
 
-# The engine: proved, then written as a library.
-$(PROVED): crates.txt $(shell find crates -name '*.rt' -o -name '*.antt')
+# The engine and the closing program: proved, then written.
+SOURCES = crates.txt $(shell find crates -name '*.rt' -o -name '*.antt')
+
+$(PROVED): $(SOURCES)
 	rt staticlib engine
+
+$(CLOSER): $(SOURCES)
+	rt check closer
+	touch $@
 
 standin: $(STANDIN)
 $(STANDIN): build/plain/engine.o

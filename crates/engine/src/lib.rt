@@ -1,3 +1,4 @@
 // The calls of the C interface, a thin function for each: only these name a formula.
 pub mod answers;
+pub mod close;
 pub mod work;

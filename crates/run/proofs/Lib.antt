@@ -1,3 +1,4 @@
 pub mod Answering
 pub mod Range
 pub mod Blocks
+pub mod Positions

@@ -1,1 +1,2 @@
+pub mod Bounding
 pub mod Working

@@ -1,0 +1,101 @@
+// A line for each figure: what is asked, and what the engine's functions give.
+use libc::STDOUT_FILENO;
+use run::Answer;
+use run::Refusal;
+use series::Series;
+use words::Wide;
+
+fn text(s: &[u8]) {
+    io::write_all(STDOUT_FILENO, s);
+}
+
+fn number(x: u64) {
+    text(b" ");
+    io::print_decimal(STDOUT_FILENO, x);
+}
+
+fn sign(added: bool) {
+    if added {
+        text(b" +");
+    } else {
+        text(b" -");
+    }
+}
+
+fn wide(x: Wide) {
+    text(b" ");
+    io::print_hex(STDOUT_FILENO, x.hi, 16);
+    io::print_hex(STDOUT_FILENO, x.lo, 16);
+}
+
+// K at position p.
+pub fn count(p: u64) {
+    text(b"count");
+    number(p);
+    if run::in_range(Series::Bellard, p, 1) {
+        number(series::terms::term_count(Series::Bellard, p));
+    }
+    text(b"\n");
+}
+
+// The bounds of block i of c.
+pub fn block(p: u64, c: u64, i: u64) {
+    text(b"block");
+    number(p);
+    number(c);
+    number(i);
+    if run::in_range(Series::Bellard, p, c) {
+        if i < c {
+            let count = series::terms::term_count(Series::Bellard, p);
+            number(ticket::bound(count, c, i));
+            number(ticket::bound(count, c, i + 1));
+        }
+    }
+    text(b"\n");
+}
+
+// The sign and the size of term k.
+pub fn term(p: u64, row: u64, k: u64) {
+    text(b"term");
+    number(p);
+    number(row);
+    number(k);
+    if run::in_range(Series::Bellard, p, 1) {
+        if run::is_ticket(Series::Bellard, 1, row, 0) {
+            if k < series::terms::term_count(Series::Bellard, p) {
+                let numbers = series::rows::row_at(Series::Bellard, row);
+                sign(series::terms::is_added(Series::Bellard, numbers, k));
+                wide(series::terms::size(Series::Bellard, p, numbers, k));
+            }
+        }
+    }
+    text(b"\n");
+}
+
+fn bytes(s: &[u8]) {
+    text(b" ");
+    let mut i = 0;
+    while i < s.len() {
+        io::print_hex(STDOUT_FILENO, s[i] as u64, 2);
+        i += 1;
+    }
+}
+
+// The 16 bytes of a ticket's sum, or the refusal.
+pub fn ticket(p: u64, c: u64, row: u64, block: u64) {
+    text(b"ticket");
+    number(p);
+    number(c);
+    number(row);
+    number(block);
+    let mut sum = [0u8; 16];
+    match ticket::work(Series::Bellard, p, c, row, block, &mut sum) {
+        Answer::Finished(_) => bytes(&sum),
+        Answer::Refused(r) => match r {
+            Refusal::OutOfRange => text(b" refused 2"),
+            Refusal::NoTicket => text(b" refused 4"),
+            _ => text(b" refused"),
+        },
+    }
+    text(b"\n");
+}
