@@ -7,5 +7,3 @@ pub mod Testing
 pub mod Over
 pub mod Admitting
 pub mod PostTests
-pub mod Pairs
-pub mod WriteTests
