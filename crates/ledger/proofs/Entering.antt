@@ -12,9 +12,8 @@ use lib.Dec.{eqb, ltb}
 use lib.ListN.{length, getD, set, take, drop, length-append, length-drop}
 use lib.Pow.{pow-add, pow-pos}
 use lib.Seq.{length-take-le, getD-append-add, getD-drop, getD-set-same, getD-set-other}
-use Rattle.words.specs.Bytes.{bytesOf, field}
+use Rattle.words.specs.Bytes.{bytesOf}
 use Rattle.words.proofs.Bytes.{length-bytes}
-use Rattle.series.specs.Series.{modulus}
 use Rattle.ledger.specs.Ledger.{markAt, bitIn, enter}
 use Rattle.ledger.proofs.Marks.{high-off, pow-under}
 
@@ -98,4 +97,4 @@ pub bit-kept : (s : List ℕ) (row block x : ℕ) → markAt row block < length 
     → 256 * r + b ≢ 256 * row + block → bitIn (enter s row block x) r b ≡ bitIn s r b
 unfolding bitIn enter
 bit-kept s row block x here off r b h l ne =
-    by-byte s row block ((field s 16 16 + x) % modulus) here off r b h l ne (eqb (markAt r b) (markAt row block)) refl
+    by-byte s row block _ here off r b h l ne (eqb (markAt r b) (markAt row block)) refl

@@ -1,7 +1,7 @@
 -- Posting a ticket: the refusal at each test, what is known where none applies, and the ledger with the ticket entered.
 -- Assumes nothing.
 use mathlib.Core.Path.{_≡_, refl, sym, ap, _∙_}
-use mathlib.Core.Bool.{Bool, true, false, not, _&&_, _||_}
+use mathlib.Core.Bool.{true, false, not, _&&_}
 use mathlib.Core.List.{List, _++_}
 use Prim.Native.Nat.{ℕ, _+_, _*_, _-_, _/_, _%_, _^_, _≤_, _<_}
 use native.Mathlib.Nat.{div-add-mod', mod-lt, div-lt-iff-lt-mul, mul-le-mul-right, one-mul, mod-eq-of-lt}
@@ -23,7 +23,7 @@ use Rattle.run.specs.declared.Answer.{Answer}
 use Rattle.run.specs.declared.Answer.the-variants.{Finished, Refused}
 use Rattle.run.proofs.Range.{range-of, ticket-row, ticket-block}
 use Rattle.run.proofs.Answering.{passes, finished, changed, was-finished, was-refused}
-use Rattle.ledger.specs.Ledger.{View, viewOf, ledgerSize, markAt, posIn, blocksIn, bitIn, markIn, inOrder, enter}
+use Rattle.ledger.specs.Ledger.{viewOf, ledgerSize, markAt, posIn, blocksIn, bitIn, markIn, inOrder, enter}
 use Rattle.ledger.specs.Calls.{ticketRefusal, ticketAnswer, ticketBytes}
 
 -- ---- the bit of a ticket

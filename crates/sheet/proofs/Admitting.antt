@@ -1,10 +1,10 @@
 -- Posting a sheet: the bits of its tickets one by one, and its tickets entered one by one. A ticket entered leaves the bits of the
 -- later ones as they were, since the contents ascend.
 -- Assumes nothing.
-use mathlib.Core.Path.{_≡_, refl, sym, ap, _∙_, subst}
-use mathlib.Core.Bool.{Bool, true, false, not, _&&_}
-use mathlib.Core.Logic.{_≢_, ⊎-elim}
-use mathlib.Core.List.{List, [], _∷_, _++_, foldl, foldl-append}
+use mathlib.Core.Path.{_≡_, refl, sym, ap, _∙_}
+use mathlib.Core.Bool.{Bool, true, false, not}
+use mathlib.Core.Logic.{⊎-elim}
+use mathlib.Core.List.{List, [], _∷_, foldl, foldl-append}
 use Prim.Native.Nat.{ℕ, zero, suc, _+_, _*_, _<_, _≤_}
 use native.Mathlib.Nat.{not-suc-le-zero}
 use native.Mathlib.Numerals.{add-one}
@@ -17,7 +17,6 @@ use Rattle.algebra.proofs.Booleans.{and-left, and-right, below-or}
 use Rattle.algebra.proofs.Below.{all-at, below-false, below-next}
 use Rattle.words.specs.Bytes.{field}
 use Rattle.ledger.specs.Ledger.{markAt, bitIn, enter}
-use Rattle.ledger.specs.Plain.{Entry}
 use Rattle.ledger.proofs.Entering.{bit-kept}
 use Rattle.sheet.specs.Sheet.{sheetCount, rowIn, blockIn, sumIn, entriesFrom, entries, every, key, ascending}
 use Rattle.sheet.specs.Tests.{inside, unset, enterable}

@@ -11,13 +11,13 @@ use borrow.Author.Tests.{le-ltb}
 use lib.Dec.{ltb}
 use lib.ListN.{length, getD}
 use Rattle.algebra.specs.Test.{allBelow}
-use Rattle.algebra.proofs.Below.{all-true, all-at, all-ext, below-false, below-next}
+use Rattle.algebra.proofs.Below.{all-true, all-at, all-ext, below-false}
 use Rattle.words.specs.Bytes.{field}
 use Rattle.words.proofs.Bytes.{field-next, field-none}
 use Rattle.series.specs.Series.{Formula}
 use Rattle.run.specs.Run.{Limits, isTicket, ticketSum}
 use Rattle.ledger.specs.Plain.{Entry}
-use Rattle.sheet.specs.Sheet.{key, ascending, every, allTickets, listed}
+use Rattle.sheet.specs.Sheet.{key, ascending, allTickets, listed}
 use Rattle.sheet.proofs.Many.{count-listed}
 use Rattle.sheet.proofs.Each.{nothing, every-each, ascending-all}
 

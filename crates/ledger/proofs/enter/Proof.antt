@@ -1,6 +1,6 @@
 -- `ledger::enter` meets its contract: the byte of the mark stays a byte, since its bit is not set.
 -- Assumes nothing.
-use mathlib.Core.Path.{_≡_, ap}
+use mathlib.Core.Path.{ap}
 use Prim.Native.Nat.{ℕ, _+_}
 use borrow.Author.Needs.{needs}
 use denote.Ref.{now}

@@ -1,12 +1,11 @@
 -- `writer::list_ascending` meets its contract: at each turn every pair passed is below the next.
 -- Assumes nothing.
-use mathlib.Core.Path.{_≡_, sym}
-use mathlib.Core.Bool.{true, false}
+use mathlib.Core.Path.{_≡_}
+use mathlib.Core.Bool.{true}
 use mathlib.Core.List.{List}
 use Prim.Native.Nat.{ℕ, _+_, _*_, _≤_, _<_, _-_}
 use native.Mathlib.Omega.{arith}
 use borrow.Author.Tests.{lt-ltb}
-use lib.ListN.{length}
 use Rattle.algebra.specs.Test.{allBelow}
 use Rattle.algebra.proofs.Below.{below-none, below-next}
 use Rattle.words.specs.Bytes.{field}

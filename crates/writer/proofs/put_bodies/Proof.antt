@@ -12,7 +12,7 @@ use Rattle.algebra.proofs.Below.{all-at}
 use Rattle.words.specs.Bytes.{bytesOf}
 use Rattle.series.specs.Series.{Formula}
 use Rattle.series.specs.Names.{formulaOf}
-use Rattle.run.specs.Run.{Limits, limitsOf, isTicket, ticketSum}
+use Rattle.run.specs.Run.{Limits, isTicket, ticketSum}
 use Rattle.ledger.specs.Plain.{Entry}
 use Rattle.sheet.specs.Sheet.{allTickets, bodiesOf, listed}
 use Rattle.writer.proofs.Pairs.{pairRow, pairBlock, count, pair-at, tickets-listed}

@@ -1,7 +1,5 @@
 -- `writer::write` meets its contract: where the output is written no test applied, and where one applies nothing is written.
 -- Assumes nothing.
-use Prim.Native.Nat.{_*_, _/_, _+_, _≤_}
-use mathlib.Core.Path.{_≡_}
 use native.Mathlib.Omega.{arith}
 use borrow.Author.Needs.{needs}
 use Rattle.writer.proofs.WriteTests.{none-applied, written, not-written}

@@ -1,6 +1,6 @@
 -- `engine::ledgers::bbp_post` meets its contract, which is that of `ledger::post`.
 -- Assumes nothing.
-use mathlib.Core.Path.{_≡_, _∙_}
+use mathlib.Core.Path.{_∙_}
 use borrow.Author.Needs.{needs}
 use mir.Syntax.{w64}
 use mir.ValLaws.{toZ-ofZ}

@@ -1,6 +1,6 @@
 -- `engine::ledgers::bbp_sheet_post` meets its contract, which is that of `sheet::posting::post`.
 -- Assumes nothing.
-use mathlib.Core.Path.{_≡_, _∙_}
+use mathlib.Core.Path.{_∙_}
 use borrow.Author.Needs.{needs}
 use mir.Syntax.{w64}
 use mir.ValLaws.{toZ-ofZ}

@@ -1,14 +1,14 @@
 -- `sheet::contents::ascending` meets its contract: at each turn every entry passed is below the next.
 -- Assumes nothing.
-use mathlib.Core.Path.{_≡_, sym}
+use mathlib.Core.Path.{_≡_}
 use mathlib.Core.Bool.{true}
 use mathlib.Core.List.{List}
-use Prim.Native.Nat.{ℕ, _+_, _*_, _≤_, _<_, _-_}
+use Prim.Native.Nat.{ℕ, _+_, _≤_, _<_, _-_}
 use native.Mathlib.Omega.{arith}
 use borrow.Author.Tests.{lt-ltb}
 use Rattle.algebra.specs.Test.{allBelow}
 use Rattle.algebra.proofs.Below.{below-none, below-next}
-use Rattle.sheet.specs.Sheet.{rowIn, blockIn, key}
+use Rattle.sheet.specs.Sheet.{key}
 use Rattle.sheet.proofs.Each.{entry, rises, ascends, falls}
 use Rattle.sheet.proofs.contents.ascending.Statement.{statement}
 use Rattle.sheet.proofs.contents.ascending.Tie as tie

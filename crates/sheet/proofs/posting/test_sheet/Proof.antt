@@ -1,6 +1,6 @@
 -- `sheet::posting::test_sheet` meets its contract: one law for each way out.
 -- Assumes nothing.
-use mathlib.Core.Path.{_≡_, sym, _∙_}
+use mathlib.Core.Path.{sym, _∙_}
 use borrow.Author.Needs.{needs}
 use borrow.Author.Tests.{not-true, not-false}
 use Rattle.sheet.proofs.PostTests.{ledger-size, short, long, bytes-refused, out-of-order, other-run, may-look, one-marked, admitted}
