@@ -2,8 +2,6 @@
 -- Assumes nothing.
 use mathlib.Core.Path.{_≡_, refl, sym, ap, _∙_, subst}
 use mathlib.Core.Bool.{Bool, true, false}
-use mathlib.Core.Logic.{⊎-elim}
-use mathlib.Core.List.{List}
 use Prim.Native.Nat.{ℕ, zero, suc, _+_, _*_, _-_, _/_, _%_, _^_, _<_, _≤_}
 use native.Mathlib.Nat.{add-mul-div-right, add-mul-mod-self-right, div-div-eq-div-mul, div-eq-of-lt, mod-add-div', mod-eq-of-lt, mul-add-mod-self-left, pow-suc, not-suc-le-zero, le-of-suc-le-suc, div-lt-iff-lt-mul, le-div-iff-mul-le}
 use native.Mathlib.Omega.{arith}
@@ -13,7 +11,7 @@ use lib.Dec.{ltb}
 use lib.IntN.{ℤ, pos, negsuc, subℕ, pos-ne-negsuc}
 use lib.ListN.{length, getD}
 use lib.Pow.{pow-pos, pow-add}
-use Rattle.algebra.specs.Whole.{quotient, residue}
+use Rattle.algebra.specs.Whole.{residue}
 use Rattle.algebra.proofs.Integers.{sub-cases}
 use Rattle.words.specs.Words.{joined}
 use Rattle.interval.specs.Interval.{unitAt, Settles}

@@ -4,19 +4,17 @@ use mathlib.Core.Path.{_≡_, refl, sym, ap, ap₂, _∙_, subst}
 use mathlib.Core.Bool.{Bool, true, false, cond, _&&_, _||_}
 use mathlib.Core.Logic.{_⊎_, inl, inr, ⊎-elim}
 use mathlib.Core.List.{List, [], _∷_, _++_, foldl, List·Memᴰ, List·Memᴰ·head, List·Memᴰ·tail, List·Memᴰ·append-cases, List·Memᴰ·not-nil}
-use Prim.Native.Nat.{ℕ, zero, suc, _+_, _^_, _<_}
+use Prim.Native.Nat.{ℕ, zero, suc, _+_, _<_}
 use native.Mathlib.Nat.{not-suc-le-zero}
-use native.Mathlib.Omega.{arith}
 use borrow.Author.Tests.{eq-eqb}
 use lib.Dec.{eqb}
-use lib.ListN.{length}
 use lib.Pow.{pow-pos}
 use Rattle.algebra.proofs.Booleans.{below-or}
 use Rattle.algebra.proofs.Integers.{residue-lt}
 use Rattle.words.specs.Bytes.{bytesOf, valueOf}
 use Rattle.words.proofs.Bytes.{length-bytes, value-bytes}
 use Rattle.series.specs.Series.{Formula, rowCount, modulus, rangeSum}
-use Rattle.run.specs.Run.{limitsOf, isTicket, ticketSum}
+use Rattle.run.specs.Run.{limitsOf, ticketSum}
 use Rattle.run.proofs.Range.{ticket-row, ticket-block}
 use Rattle.ledger.specs.Plain.{Plain, Entry, plainView, admit, isOf, opened}
 use Rattle.sheet.specs.Posts.{Post, ticket, postRefusal, postEntries, plainPost, occurring, occurrences, contains}

@@ -2,7 +2,7 @@
 -- The total of a plain ledger is the sum of the tickets in its set, as long as each carries its right sum.
 -- Assumes nothing.
 use mathlib.Core.Path.{_≡_, refl, sym, ap, ap₂, _∙_, subst}
-use mathlib.Core.Bool.{Bool, true, false, cond, not, _&&_, _||_}
+use mathlib.Core.Bool.{Bool, true, false, cond, _&&_, _||_}
 use mathlib.Core.Logic.{_⊎_, inl, inr, ⊎-elim}
 use mathlib.Core.List.{List, [], _∷_, _++_, foldl, List·Memᴰ, List·Memᴰ·head, List·Memᴰ·tail, Memᴰ·append-left, Memᴰ·append-right}
 use Prim.Native.Nat.{ℕ, _+_, _%_, _^_, _<_}
@@ -22,7 +22,6 @@ use Rattle.ledger.specs.Plain.{Plain, Entry, plainView, admit, including, isOf,
 use Rattle.ledger.specs.Calls.{ticketRefusal}
 use Rattle.ledger.proofs.Image.{Good, including-here, including-else}
 use Rattle.sheet.specs.Sheet.{entries}
-use Rattle.sheet.specs.Calls.{sheetRefusal}
 use Rattle.sheet.specs.Posts.{Post, ticket, sheet, postRefusal, postEntries, plainPost, plainPosts, occurring, occurrences, contains}
 use Rattle.sheet.proofs.Simulation.{Ready, good-admit, good-opened, post-ready, step}
 use Rattle.settlement.specs.Settlement.{Filled, allSums}
