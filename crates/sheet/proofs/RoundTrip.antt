@@ -33,15 +33,15 @@ use Rattle.sheet.proofs.Sheets.{Fitting, pos-read, blocks-read, count-r
 
 -- ---- what the writer has tested
 
-record Taken (F : Formula) (p C : ℕ) (list out : List ℕ) : Type 0 where
-  even : length list % 2 ≡ 0
-  short : length list ≤ listMost (limitsOf F)
-  room : sheetLength (length list / 2) ≤ length out
-  range : inRange (limitsOf F) p C ≡ true
-  ascends : ascending (listed F p C list) ≡ true
-  tickets : allTickets (limitsOf F) C (listed F p C list) ≡ true
+pub record Taken (F : Formula) (p C : ℕ) (list out : List ℕ) : Type 0 where
+  pub even : length list % 2 ≡ 0
+  pub short : length list ≤ listMost (limitsOf F)
+  pub room : sheetLength (length list / 2) ≤ length out
+  pub range : inRange (limitsOf F) p C ≡ true
+  pub ascends : ascending (listed F p C list) ≡ true
+  pub tickets : allTickets (limitsOf F) C (listed F p C list) ≡ true
 
-taken-of : (F : Formula) (p C : ℕ) (list out : List ℕ) → writeRefusal F p C list out ≡ 0 → Taken F p C list out
+pub taken-of : (F : Formula) (p C : ℕ) (list out : List ℕ) → writeRefusal F p C list out ≡ 0 → Taken F p C list out
 unfolding writeRefusal
 taken-of F p C list out e =
     let e₁ = passes 0 _ _ e in
@@ -75,12 +75,12 @@ of-taken F p C list out t =
 
 -- ---- lengths
 
-length-bodies : (ts : List Entry) → length (bodiesOf ts) ≡ 16 * length ts
+pub length-bodies : (ts : List Entry) → length (bodiesOf ts) ≡ 16 * length ts
 unfolding bodiesOf bytesOf
 length-bodies [] = refl
 length-bodies (t ∷ ts) = let h = length-bodies ts in omega (arith, h)
 
-length-sheet : (p C : ℕ) (ts : List Entry) → length (sheetOf p C ts) ≡ sheetLength (length ts)
+pub length-sheet : (p C : ℕ) (ts : List Entry) → length (sheetOf p C ts) ≡ sheetLength (length ts)
 unfolding sheetOf bytesOf
 length-sheet p C ts =
     let c = length-contents ts in
@@ -88,7 +88,7 @@ length-sheet p C ts =
     let a = length-append (contentsOf ts) (bodiesOf ts) in
     omega (arith, a, b, c)
 
-length-list : (ts : List Entry) → length (listOf ts) ≡ 2 * length ts
+pub length-list : (ts : List Entry) → length (listOf ts) ≡ 2 * length ts
 unfolding listOf bytesOf
 length-list [] = refl
 length-list (t ∷ ts) = let h = length-list ts in omega (arith, h)

@@ -68,7 +68,7 @@ entered lim s (t ∷ ts) g r =
 
 -- ---- a sheet's tickets are ready
 
-every-and : (f g h : Entry → Bool) → ((t : Entry) → f t ≡ true → g t ≡ true → h t ≡ true)
+pub every-and : (f g h : Entry → Bool) → ((t : Entry) → f t ≡ true → g t ≡ true → h t ≡ true)
     → (ts : List Entry) → every f ts ≡ true → every g ts ≡ true → every h ts ≡ true
 unfolding every
 every-and f g h i [] a b = refl
