@@ -9,3 +9,4 @@ pub mod Admitting
 pub mod PostTests
 pub mod Pairs
 pub mod WriteTests
+pub mod Singles
