@@ -11,7 +11,7 @@ pub extern "C" fn bbp_sheet_write(p: u64, c: u64, list: &[u8], sheet: &mut [u8])
     ensures answers { λ r. ⌜ r ≡ writeAnswer bellard p c (now (list .entry)) (now (sheet .entry)) ⌝ }
     ensures leaves { λ _. ⌜ now (sheet .exit) ≡ writeBytes bellard p c (now (list .entry)) (now (sheet .entry)) ⌝ }
 {
-    to_c(sheet::writing::write(Series::Bellard, p, c, list, sheet))
+    to_c(writer::write(Series::Bellard, p, c, list, sheet))
 }
 
 #[no_mangle]

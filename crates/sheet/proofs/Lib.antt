@@ -7,6 +7,4 @@ pub mod Testing
 pub mod Over
 pub mod Admitting
 pub mod PostTests
-pub mod Pairs
-pub mod WriteTests
 pub mod Singles

@@ -20,7 +20,7 @@ use Rattle.sheet.specs.Posts.{Post, ticket, sheet, postRefusal, postEntr
 use Rattle.sheet.proofs.Simulation.{Ready, good-admit, post-ready}
 
 -- a post of one ticket for each entry
-pub singles : ℕ → ℕ → List Entry → List Post
+unfoldable pub singles : ℕ → ℕ → List Entry → List Post
 singles p C [] = []
 singles p C (t ∷ ts) = ticket p C (t .row) (t .block) (bytesOf 16 (t .sum)) ∷ singles p C ts
 

@@ -1,5 +1,4 @@
-// Sheets: writing, reading and posting them.
+// Sheets: reading and posting them.
 pub mod contents;
 pub mod posting;
 pub mod reading;
-pub mod writing;

@@ -1,4 +1,4 @@
--- `engine::sheets::bbp_sheet_write` meets its contract, which is that of `sheet::writing::write`.
+-- `engine::sheets::bbp_sheet_write` meets its contract, which is that of `writer::write`.
 -- Assumes nothing.
 use mathlib.Core.Path.{_≡_, _∙_}
 use borrow.Author.Needs.{needs}

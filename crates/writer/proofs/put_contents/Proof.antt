@@ -1,4 +1,4 @@
--- `sheet::writing::put_contents` meets its contract: after i turns the contents of i tickets stand over the output.
+-- `writer::put_contents` meets its contract: after i turns the contents of i tickets stand over the output.
 -- Assumes nothing.
 use mathlib.Core.Path.{_≡_, refl, sym, ap, _∙_}
 use mathlib.Core.List.{List, _++_}
@@ -10,11 +10,11 @@ use lib.ListN.{length, take, drop}
 use Rattle.words.specs.Bytes.{bytesOf}
 use Rattle.series.specs.Series.{Formula}
 use Rattle.ledger.specs.Plain.{Entry}
 use Rattle.sheet.specs.Sheet.{contentsOf, listed}
-use Rattle.sheet.proofs.Pairs.{pairRow, pairBlock, count, pair-at}
+use Rattle.writer.proofs.Pairs.{pairRow, pairBlock, count, pair-at}
 use Rattle.sheet.proofs.Over.{contents, line, line-is, over-to, start, turn, finish}
-use Rattle.sheet.proofs.writing.put_contents.Statement.{statement}
-use Rattle.sheet.proofs.writing.put_contents.Tie as tie
+use Rattle.writer.proofs.put_contents.Statement.{statement}
+use Rattle.writer.proofs.put_contents.Tie as tie
 
 -- after i turns, whatever the sums are
 abbrev Written : List ℕ → List ℕ → List ℕ → ℕ → Type 0

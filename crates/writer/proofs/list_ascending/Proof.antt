@@ -1,4 +1,4 @@
--- `sheet::writing::list_ascending` meets its contract: at each turn every pair passed is below the next.
+-- `writer::list_ascending` meets its contract: at each turn every pair passed is below the next.
 -- Assumes nothing.
 use mathlib.Core.Path.{_≡_, sym}
 use mathlib.Core.Bool.{true, false}
@@ -10,9 +10,9 @@ use lib.ListN.{length}
 use Rattle.algebra.specs.Test.{allBelow}
 use Rattle.algebra.proofs.Below.{below-none, below-next}
 use Rattle.words.specs.Bytes.{field}
-use Rattle.sheet.proofs.Pairs.{pair-rises, pairs-ascend, pairs-fall}
-use Rattle.sheet.proofs.writing.list_ascending.Statement.{statement}
-use Rattle.sheet.proofs.writing.list_ascending.Tie as tie
+use Rattle.writer.proofs.Pairs.{pair-rises, pairs-ascend, pairs-fall}
+use Rattle.writer.proofs.list_ascending.Statement.{statement}
+use Rattle.writer.proofs.list_ascending.Tie as tie
 
 -- a turn, with the pairs as the code has them
 next : (list : List ℕ) (i k l : ℕ) → k ≡ field list (2 * (i + 1)) 2 → l ≡ field list (2 * i) 2 → l < k → allBelow i (pair-rises list) ≡ true

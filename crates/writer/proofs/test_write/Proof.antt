@@ -1,13 +1,13 @@
--- `sheet::writing::test_write` meets its contract: one law for each way out.
+-- `writer::test_write` meets its contract: one law for each way out.
 -- Assumes nothing.
 use mathlib.Core.Path.{_≡_, sym, _∙_}
 use native.Mathlib.Omega.{arith}
 use borrow.Author.Needs.{needs}
 use borrow.Author.Tests.{not-true, not-false}
 use Rattle.series.proofs.FewRows.{few-rows}
-use Rattle.sheet.proofs.WriteTests.{odd, long, no-room, out-of-range, not-ascending, no-ticket, accepted}
-use Rattle.sheet.proofs.writing.test_write.Statement.{statement}
-use Rattle.sheet.proofs.writing.test_write.Tie as tie
+use Rattle.writer.proofs.WriteTests.{odd, long, no-room, out-of-range, not-ascending, no-ticket, accepted}
+use Rattle.writer.proofs.test_write.Statement.{statement}
+use Rattle.writer.proofs.test_write.Tie as tie
 
 returns : tie.Need-returns
 returns c = odd _ _ _ _ _ (c .if1 .taken)

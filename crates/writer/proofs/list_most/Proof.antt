@@ -1,10 +1,10 @@
--- `sheet::writing::list_most` meets its contract: a formula has few rows.
+-- `writer::list_most` meets its contract: a formula has few rows.
 -- Assumes nothing.
 use native.Mathlib.Omega.{arith}
 use borrow.Author.Needs.{needs}
 use Rattle.series.proofs.FewRows.{few-rows}
-use Rattle.sheet.proofs.writing.list_most.Statement.{statement}
-use Rattle.sheet.proofs.writing.list_most.Tie as tie
+use Rattle.writer.proofs.list_most.Statement.{statement}
+use Rattle.writer.proofs.list_most.Tie as tie
 
 row-count-requires : tie.Need-row-count-requires
 row-count-requires c κs = search needs

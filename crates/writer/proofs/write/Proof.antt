@@ -1,12 +1,12 @@
--- `sheet::writing::write` meets its contract: where the output is written no test applied, and where one applies nothing is written.
+-- `writer::write` meets its contract: where the output is written no test applied, and where one applies nothing is written.
 -- Assumes nothing.
 use Prim.Native.Nat.{_*_, _/_, _+_, _≤_}
 use mathlib.Core.Path.{_≡_}
 use native.Mathlib.Omega.{arith}
 use borrow.Author.Needs.{needs}
-use Rattle.sheet.proofs.WriteTests.{none-applied, written, not-written}
-use Rattle.sheet.proofs.writing.write.Statement.{statement}
-use Rattle.sheet.proofs.writing.write.Tie as tie
+use Rattle.writer.proofs.WriteTests.{none-applied, written, not-written}
+use Rattle.writer.proofs.write.Statement.{statement}
+use Rattle.writer.proofs.write.Tie as tie
 
 test-write-requires : tie.Need-test-write-requires
 test-write-requires c κs = search needs

@@ -1,4 +1,4 @@
--- `sheet::writing::put_head` meets its contract: each field is written after the one before it.
+-- `writer::put_head` meets its contract: each field is written after the one before it.
 -- Assumes nothing.
 use mathlib.Core.Path.{_≡_, refl, ap, _∙_}
 use mathlib.Core.List.{List, [], _++_}
@@ -7,9 +7,9 @@ use borrow.Author.Needs.{needs}
 use denote.Ref.{now}
 use lib.ListN.{take, drop}
 use Rattle.words.specs.Bytes.{bytesOf}
 use Rattle.sheet.proofs.Over.{write-next}
-use Rattle.sheet.proofs.writing.put_head.Statement.{statement}
-use Rattle.sheet.proofs.writing.put_head.Tie as tie
+use Rattle.writer.proofs.put_head.Statement.{statement}
+use Rattle.writer.proofs.put_head.Tie as tie
 
 law : (p C e : ℕ) (s s₁ s₂ s₃ s₄ : List ℕ) → s₁ ≡ take 0 s ++ bytesOf 8 p ++ drop (0 + 8) s → s₂ ≡ take 8 s₁ ++ bytesOf 2 C ++ drop (8 + 2) s₁
     → s₃ ≡ take 10 s₂ ++ bytesOf 2 e ++ drop (10 + 2) s₂ → s₄ ≡ take 12 s₃ ++ bytesOf 4 0 ++ drop (12 + 4) s₃

@@ -1,4 +1,4 @@
--- `sheet::writing::put_bodies` meets its contract: after i turns the sums of i tickets stand over the output.
+-- `writer::put_bodies` meets its contract: after i turns the sums of i tickets stand over the output.
 -- Assumes nothing.
 use mathlib.Core.Path.{_≡_, refl, sym, ap, _∙_}
 use mathlib.Core.Bool.{true}
@@ -14,11 +14,11 @@ use Rattle.series.specs.Series.{Formula}
 use Rattle.series.specs.Names.{formulaOf}
 use Rattle.run.specs.Run.{Limits, limitsOf, isTicket, ticketSum}
 use Rattle.ledger.specs.Plain.{Entry}
 use Rattle.sheet.specs.Sheet.{allTickets, bodiesOf, listed}
-use Rattle.sheet.proofs.Pairs.{pairRow, pairBlock, count, pair-at, tickets-listed}
+use Rattle.writer.proofs.Pairs.{pairRow, pairBlock, count, pair-at, tickets-listed}
 use Rattle.sheet.proofs.Over.{bodies, over-to, start, turn, finish}
-use Rattle.sheet.proofs.writing.put_bodies.Statement.{statement}
-use Rattle.sheet.proofs.writing.put_bodies.Tie as tie
+use Rattle.writer.proofs.put_bodies.Statement.{statement}
+use Rattle.writer.proofs.put_bodies.Tie as tie
 
 module _ (F : Formula) (p C : ℕ) (list old : List ℕ) (e : ℕ) where
   abbrev summed-to : ℕ → List ℕ

@@ -1,4 +1,4 @@
--- `sheet::writing::list_tickets` meets its contract: at each turn every pair passed is a ticket.
+-- `writer::list_tickets` meets its contract: at each turn every pair passed is a ticket.
 -- Assumes nothing.
 use mathlib.Core.Path.{_≡_, sym, _∙_}
 use mathlib.Core.Bool.{Bool, true, false}
@@ -11,9 +11,9 @@ use Rattle.algebra.specs.Test.{allBelow}
 use Rattle.algebra.proofs.Below.{below-none, below-next, below-false}
 use Rattle.series.specs.Names.{formulaOf}
 use Rattle.run.specs.Run.{Limits, limitsOf, isTicket}
-use Rattle.sheet.proofs.Pairs.{pairRow, pairBlock, tickets-listed}
-use Rattle.sheet.proofs.writing.list_tickets.Statement.{statement}
-use Rattle.sheet.proofs.writing.list_tickets.Tie as tie
+use Rattle.writer.proofs.Pairs.{pairRow, pairBlock, tickets-listed}
+use Rattle.writer.proofs.list_tickets.Statement.{statement}
+use Rattle.writer.proofs.list_tickets.Tie as tie
 
 abbrev ticketAt : Limits → ℕ → List ℕ → ℕ → Bool
 ticketAt lim C list i = isTicket lim C (pairRow list i) (pairBlock list i)
