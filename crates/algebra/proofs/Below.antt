@@ -44,3 +44,14 @@ below-none f = refl
 pub below-next : (n : ℕ) (f : ℕ → Bool) → allBelow n f ≡ true → f n ≡ true → allBelow (n + 1) f ≡ true
 unfolding allBelow
 below-next n f h e = rw (add-one n) (rw (h, e) refl)
+
+and-swap : (a b c : Bool) → (a && (b && c)) ≡ (b && (a && c))
+and-swap true b c = refl
+and-swap false true c = refl
+and-swap false false c = refl
+
+-- from the front, as a test over a list goes
+pub below-front : (n : ℕ) (f : ℕ → Bool) → allBelow (suc n) f ≡ (f 0 && allBelow n (λ i. f (suc i)))
+unfolding allBelow
+below-front zero f = refl
+below-front (suc n) f = ap (λ (b : Bool). f (suc n) && b) (below-front n f) ∙ and-swap (f (suc n)) (f 0) (allBelow n (λ i. f (suc i)))

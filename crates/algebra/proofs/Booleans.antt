@@ -27,6 +27,10 @@ and-false false = refl
 pub not-both : (b : Bool) → b ≡ true → b ≡ false → ⊥
 not-both b e f = let z : _≡_ {A = ℕ} 0 1 = cc in omega arith
 
+pub neither : (a b : Bool) → (a || b) ≡ false → (a ≡ false) × (b ≡ false)
+neither true b e = absurd (not-both true refl e)
+neither false b e = (refl, e)
+
 -- `imp a b`: where a holds, b does
 abbrev pub imp : Bool → Bool → Bool
 imp true b = b

@@ -1,1 +1,2 @@
 pub mod TopDigits
+pub mod Closing

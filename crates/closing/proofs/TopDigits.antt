@@ -5,7 +5,7 @@ use mathlib.Core.Bool.{Bool, true, false}
 use mathlib.Core.Logic.{⊎-elim}
 use mathlib.Core.List.{List}
 use Prim.Native.Nat.{ℕ, zero, suc, _+_, _*_, _-_, _/_, _%_, _^_, _<_, _≤_}
-use native.Mathlib.Nat.{add-mul-div-right, add-mul-mod-self-right, div-div-eq-div-mul, div-eq-of-lt, div-add-mod', not-suc-le-zero, le-of-suc-le-suc, mul-lt-mul-of-pos-right, div-lt-iff-lt-mul, le-div-iff-mul-le}
+use native.Mathlib.Nat.{add-mul-div-right, add-mul-mod-self-right, div-div-eq-div-mul, div-eq-of-lt, mod-add-div', mod-eq-of-lt, mul-add-mod-self-left, pow-suc, not-suc-le-zero, le-of-suc-le-suc, div-lt-iff-lt-mul, le-div-iff-mul-le}
 use native.Mathlib.Omega.{arith}
 use borrow.Author.Tests.{ltb-true, ltb-false, lt-ltb, le-ltb}
 use lib.Arith.{digits-lt}
@@ -74,6 +74,10 @@ pub joined-lt : (M hi lo : ℕ) → M ≡ 2 ^ 128 → hi < 2 ^ 64 → lo < 2 ^ 6
 unfolding joined
 joined-lt M hi lo e h l = subst (λ (n : ℕ). hi * 2 ^ 64 + lo < n) (sym e) (digits-lt h l)
 
+pub low-word : (x : ℕ) → joined 0 x ≡ x
+unfolding joined
+low-word x = omega arith
+
 -- the same quotient by 2 ^ (128 - 4 d)
 pub Share : ℕ → ℕ → ℕ → Type 0
 Share L H d = L / unitAt d ≡ H / unitAt d
@@ -136,12 +140,12 @@ negative-none T b H h =
     (λ l. sym (none-settled (negsuc (b - suc T)) (pos H) (λ d s. pos-ne-negsuc (H / unitAt d) ((b - suc T) / unitAt d) (sym (s .2)))))
     (λ l. absurd (omega arith))
 
-sub-pos : (T b : ℕ) → b ≤ T → subℕ T b ≡ pos (T - b)
+pub sub-pos : (T b : ℕ) → b ≤ T → subℕ T b ≡ pos (T - b)
 sub-pos T b h = sub-cases T b (λ z. z ≡ pos (T - b)) (λ l. absurd (omega arith)) (λ l. refl)
 
 -- at 2 ^ 128 or above
 pub over-none : (T b H : ℕ) → T < 2 ^ 128 → b ≤ T → 2 ^ 128 ≤ H → 0 ≡ settled (subℕ T b) (pos H)
-unfolding Settles
+unfolding Settles Share
 over-none T b H t l h =
     sym (none-settled (subℕ T b) (pos H) (λ d s.
     let o = s .0 in
@@ -161,18 +165,81 @@ over-none T b H t l h =
 pub within-is : (T b L H : ℕ) → b ≤ T → L ≡ T - b → settled (pos L) (pos H) ≡ settled (subℕ T b) (pos H)
 within-is T b L H h e = ap (λ (n : ℕ). settled (pos n) (pos H)) e ∙ ap (λ (z : ℤ). settled z (pos H)) (sym (sub-pos T b h))
 
--- sums and differences modulo M that do not wrap
+-- ---- sums and differences modulo M
+
+mod-once : (x M : ℕ) → 0 < M → M ≤ x → x < M + M → x % M + M ≡ x
+mod-once x M m a b =
+    let e : x % M ≡ x - M = (
+    let q : M * 1 + (x - M) ≡ x = omega arith in
+    ap (λ (n : ℕ). n % M) (sym q) ∙ mul-add-mod-self-left M 1 (x - M) ∙ mod-eq-of-lt (omega arith)
+    ) in
+    omega (arith, e)
+
+-- a difference that does not wrap
 pub sub-exact : (M T b r : ℕ) → T < M → r < M → b ≤ T → (r + b) % M ≡ T → r ≡ T - b
 sub-exact M T b r h l k e = go (ltb (r + b) M) refl
   where
-    d = div-add-mod' (r + b) M
-
     go : (t : Bool) → ltb (r + b) M ≡ t → r ≡ T - b
-    go true f = let m = mod-small (r + b) M (ltb-true (r + b) M f) in omega (arith, e, m)
-    go false f = absurd (let n = ltb-false (r + b) M f in let m = mod-once (r + b) M n (omega arith) in omega (arith, e, m, n))
+    go true f = let m = mod-eq-of-lt (ltb-true (r + b) M f) in omega (arith, e, m)
+    go false f =
+        let n = ltb-false (r + b) M f in
+        let m = mod-once (r + b) M (omega arith) n (omega arith) in
+        absurd (omega (arith, e, m, n))
 
-    mod-small : (x M : ℕ) → x < M → x % M ≡ x
-    mod-small x M h = omega arith
+-- a sum that wraps is below what was added to, and one that does not is not
+pub add-over : (M T a r : ℕ) → T < M → a < M → r ≡ (T + a) % M → r < T → M ≤ T + a
+add-over M T a r h l e k = go (ltb (T + a) M) refl
+  where
+    go : (t : Bool) → ltb (T + a) M ≡ t → M ≤ T + a
+    go true f = let m = mod-eq-of-lt (ltb-true (T + a) M f) in absurd (omega (arith, e, m))
+    go false f = ltb-false (T + a) M f
 
-    mod-once : (x M : ℕ) → M ≤ x → x < 2 * M → x % M ≡ x - M
-    mod-once x M a b = omega arith
+pub add-exact : (M T a r : ℕ) → T < M → a < M → r ≡ (T + a) % M → T ≤ r → r ≡ T + a
+add-exact M T a r h l e k = go (ltb (T + a) M) refl
+  where
+    go : (t : Bool) → ltb (T + a) M ≡ t → r ≡ T + a
+    go true f = e ∙ mod-eq-of-lt (ltb-true (T + a) M f)
+    go false f =
+        let n = ltb-false (T + a) M f in
+        let m = mod-once (T + a) M (omega arith) n (omega arith) in
+        absurd (omega (arith, e, m, n))
+
+-- ---- the characters of the d highest digits
+
+pub length-text : (d x : ℕ) → length (hexText d x) ≡ d
+unfolding hexText
+length-text zero x = refl
+length-text (suc d) x = ap suc (length-text d x)
+
+text-at : (d x i : ℕ) → i < d → getD (hexText d x) i 0 ≡ hexDigit (x / 16 ^ (d - (i + 1)) % 16)
+unfolding hexText
+text-at zero x i h = absurd (not-suc-le-zero h)
+text-at (suc d) x zero h =
+    let q : d ≡ suc d - (0 + 1) = omega arith in
+    ap (λ (n : ℕ). hexDigit (x / 16 ^ n % 16)) q
+text-at (suc d) x (suc i) h =
+    let q : d - (i + 1) ≡ suc d - (suc i + 1) = omega arith in
+    text-at d x i (le-of-suc-le-suc h) ∙ ap (λ (n : ℕ). hexDigit (x / 16 ^ n % 16)) q
+
+-- a digit of the lowest d is one of the number
+digit-of-rest : (x d j : ℕ) → j < d → x % 16 ^ d / 16 ^ j % 16 ≡ x / 16 ^ j % 16
+digit-of-rest x d j h =
+    let m = x % 16 ^ d in
+    let c = x / 16 ^ d * 16 ^ (d - suc j) in
+    let q : d ≡ (d - suc j) + suc j = omega arith in
+    let p : 16 ^ d ≡ 16 ^ (d - suc j) * (16 ^ j * 16) = ap (λ (n : ℕ). 16 ^ n) q ∙ pow-add 16 (d - suc j) (suc j) ∙ ap (λ (n : ℕ). 16 ^ (d - suc j) * n) (pow-suc 16 j) in
+    let e : x ≡ m + c * 16 * 16 ^ j = (let a = mod-add-div' x (16 ^ d) in let b = ap (λ (n : ℕ). x / 16 ^ d * n) p in omega (arith, a, b)) in
+    sym (ap (λ (n : ℕ). n / 16 ^ j % 16) e ∙ digit-below m c (16 ^ j) (subst (λ (n : ℕ). 0 < n) (pow-step 4 j) (pow-pos (4 * j))))
+
+pub text-digit : (x d i : ℕ) → d ≤ 32 → i < d → getD (lowDigits d (pos (x / unitAt d))) i 0 ≡ hexDigit (x / unitAt (i + 1) % 16)
+unfolding lowDigits residue
+text-digit x d i h l =
+    let j = d - (i + 1) in
+    let u : unitAt d * 16 ^ j ≡ unitAt (i + 1) = ap (λ (n : ℕ). unitAt d * n) (sym (pow-step 4 j)) ∙ coarser (i + 1) d (omega arith) h in
+    text-at d (x / unitAt d % 16 ^ d) i l
+    ∙ ap hexDigit (digit-of-rest (x / unitAt d) d j (omega arith)
+    ∙ ap (λ (n : ℕ). n % 16) (div-div-eq-div-mul x (unitAt d) (16 ^ j) ∙ ap (λ (n : ℕ). x / n) u))
+
+pub length-low : (d : ℕ) (z : ℤ) → length (lowDigits d z) ≡ d
+unfolding lowDigits
+length-low d z = length-text d (residue (16 ^ d) z)

@@ -1,5 +1,6 @@
 -- Closing a ledger: the refusals, the answer, and what the call leaves in the 32 bytes lent for the digits. Document 01, "Closing".
-use mathlib.Core.Bool.{not, cond, _||_}
+use mathlib.Core.Path.{_≡_}
+use mathlib.Core.Bool.{true, not, cond, _||_}
 use mathlib.Core.List.{List, [], _∷_, _++_}
 use Prim.Native.Nat.{ℕ}
 use lib.Dec.{eqb}
@@ -11,7 +12,7 @@ use Rattle.series.specs.Series.{Formula, rowCount, termCount}
 use Rattle.interval.specs.Interval.{low, high, unitAt}
 use Rattle.interval.specs.Digits.{settled, lowDigits}
 use Rattle.run.specs.Refusal.{Test, _⇐_, refusal, answer}
-use Rattle.run.specs.Run.{limitsOf}
+use Rattle.run.specs.Run.{Limits, limitsOf}
 use Rattle.ledger.specs.Ledger.{posIn, blocksIn, totalIn, markIn, inOrder, ledgerSize}
 
 -- low and high of a run at position p with a total
@@ -43,3 +44,8 @@ unfoldable pub closeBytes : Formula → List ℕ → List ℕ → List ℕ
 closeBytes F s digits =
     let d = settledAt F (posIn s) (totalIn s) in
     cond (eqb (closeRefusal F s digits) 0) (digitsAt F (posIn s) (totalIn s) d ++ drop d digits) digits
+
+-- the ledger has its size and is in order: what closing has tested before it looks at the run
+pub record Ordered (lim : Limits) (s : List ℕ) : Type 0 where
+  pub sized : length s ≡ ledgerSize lim
+  pub ordered : inOrder lim s ≡ true

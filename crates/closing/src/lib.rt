@@ -5,9 +5,22 @@ ghost use Prim.Native.Nat.{_+_, _*_, _/_, _%_, _^_, _<_, _≤_};
 ghost use lib.Dec.{ltb};
 ghost use lib.IntN.{pos, subℕ};
 ghost use lib.ListN.{length, drop};
+ghost use mathlib.Core.Bool.{cond};
+ghost use Prim.Native.Nat.{ℕ};
+ghost use Rattle.algebra.specs.Test.{allBelow};
 ghost use Rattle.words.specs.Words.{joined};
+ghost use Rattle.series.specs.Names.{formulaOf};
+ghost use Rattle.series.specs.Series.{plus, minus};
+ghost use Rattle.run.specs.Run.{limitsOf};
+ghost use Rattle.run.specs.Answers.{answerOf};
+ghost use Rattle.ledger.specs.Ledger.{posIn, totalIn, bitIn};
+ghost use Rattle.closing.specs.Closing.{Ordered, lowOf, settledAt, closeAnswer, closeBytes};
+ghost use Rattle.interval.specs.Interval as definition;
 ghost use Rattle.interval.specs.Interval.{unitAt};
 ghost use Rattle.interval.specs.Digits.{settled, hexDigit, lowDigits};
+use run::Answer;
+use run::Refusal;
+use series::Series;
 use words::Wide;
 
 // Whether a is below b.
@@ -85,5 +98,112 @@ pub fn put_digits(out: &mut [u8], x: Wide, d: usize)
     while i < d {
         out[i] = hex_digit(digit_at(x, i as u64));
         i += 1;
+    }
+}
+
+// How many terms of a run with k terms in every row are charged: the added ones, or the subtracted ones.
+pub fn charges(f: Series, added: bool, k: u64) -> u64
+    requires { ⌜ k ≤ 2 ^ 60 ⌝ }
+    ensures counts { λ r. ⌜ ((p : ℕ) → r ≡ definition.charges (formulaOf f) (cond added plus minus) p k) ⌝ }
+    ensures small { λ r. ⌜ r < 2 ^ 63 ⌝ }
+{
+    match f {
+        Series::Bellard => {
+            let pairs = 7 * (k / 2);
+            if k % 2 == 0 {
+                return pairs;
+            }
+            if added { pairs + 2 } else { pairs + 5 }
+        }
+    }
+}
+
+// Whether the first c blocks of a row are all marked.
+pub fn row_full(s: &[u8], row: usize, c: usize) -> bool
+    requires { ⌜ (64 + 32 * row ≤ length (now s)) × (c ≤ 256) ⌝ }
+    ensures { λ r. ⌜ r ≡ allBelow c (λ block. bitIn (now (s .entry)) row block) ⌝ }
+{
+    let mut block = 0;
+    while block < c {
+        if !ledger::bit_set(s, row, block) {
+            return false;
+        }
+        block += 1;
+    }
+    true
+}
+
+// Whether the first c blocks of every row are marked.
+pub fn rows_full(s: &[u8], rows: usize, c: usize) -> bool
+    requires { ⌜ (32 + 32 * rows ≤ length (now s)) × (c ≤ 256) ⌝ }
+    ensures { λ r. ⌜ r ≡ allBelow rows (λ row. allBelow c (λ block. bitIn (now (s .entry)) row block)) ⌝ }
+{
+    let mut row = 0;
+    while row < rows {
+        if !row_full(s, row, c) {
+            return false;
+        }
+        row += 1;
+    }
+    true
+}
+
+// The number of digits that a ledger's total settles.
+pub fn settle(f: Series, ledger: &[u8]) -> u64
+    requires { ⌜ Ordered (limitsOf (formulaOf f)) (now ledger) ⌝ }
+    ensures { λ r. ⌜ r ≡ settledAt (formulaOf f) (posIn (now (ledger .entry))) (totalIn (now (ledger .entry))) ⌝ }
+{
+    let k = series::terms::term_count(f, words::get(ledger, 0, 8));
+    let a = charges(f, true, k);
+    let b = charges(f, false, k);
+    settled_digits(words::get_wide(ledger, 16), a, b)
+}
+
+// The lower end of the interval around a ledger's total, where a digit is settled, so that it is not below 0.
+pub fn lower_end(f: Series, ledger: &[u8]) -> Wide
+    requires { ⌜ Ordered (limitsOf (formulaOf f)) (now ledger) × (settledAt (formulaOf f) (posIn (now ledger)) (totalIn (now ledger)) ≡ 0 → ⊥) ⌝ }
+    ensures { λ r. ⌜ lowOf (formulaOf f) (posIn (now (ledger .entry))) (totalIn (now (ledger .entry))) ≡ pos (joined (r .hi) (r .lo)) ⌝ }
+{
+    let k = series::terms::term_count(f, words::get(ledger, 0, 8));
+    let b = charges(f, false, k);
+    let total = words::get_wide(ledger, 16);
+    words::sub(total, Wide { hi: 0, lo: b + 1 })
+}
+
+// What the refusal table says of a closing, its tests in the order of their numbers; or the number of digits.
+pub fn test_closing(f: Series, ledger: &[u8], digits: &[u8]) -> Answer
+    ensures { λ r. ⌜ answerOf r ≡ closeAnswer (formulaOf f) (now (ledger .entry)) (now (digits .entry)) ⌝ }
+{
+    if ledger.len() != ledger::ledger_size(f) {
+        return Answer::Refused(Refusal::WrongSize);
+    }
+    if digits.len() != 32 {
+        return Answer::Refused(Refusal::WrongSize);
+    }
+    if !ledger::in_order(f, ledger) {
+        return Answer::Refused(Refusal::OutOfOrder);
+    }
+    let c = words::get(ledger, 8, 2);
+    if !rows_full(ledger, series::limits::row_count(f), c as usize) {
+        return Answer::Refused(Refusal::Unmarked);
+    }
+    let d = settle(f, ledger);
+    if d == 0 {
+        return Answer::Refused(Refusal::Unsettled);
+    }
+    Answer::Finished(d as u32)
+}
+
+// Closes a ledger: writes the digits that it settles. All tests are done before a byte is written.
+pub fn close(f: Series, ledger: &[u8], digits: &mut [u8]) -> Answer
+    ensures answers { λ r. ⌜ answerOf r ≡ closeAnswer (formulaOf f) (now (ledger .entry)) (now (digits .entry)) ⌝ }
+    ensures leaves { λ _. ⌜ now (digits .exit) ≡ closeBytes (formulaOf f) (now (ledger .entry)) (now (digits .entry)) ⌝ }
+{
+    match test_closing(f, ledger, digits) {
+        Answer::Finished(d) => {
+            put_digits(digits, lower_end(f, ledger), d as usize);
+            Answer::Finished(d)
+        }
+        Answer::Refused(r) => Answer::Refused(r),
     }
 }

@@ -91,7 +91,7 @@ twice : (z : ℤ) (v w : ℕ) → quotient (quotient z v) w ≡ quotient z (v * 
 twice (pos n) v w = ap pos (div-div-eq-div-mul n v w)
 twice (negsuc n) v w = ap negsuc (div-div-eq-div-mul n v w)
 
-coarser : (e d : ℕ) → e ≤ d → d ≤ 32 → unitAt d * 2 ^ (4 * (d - e)) ≡ unitAt e
+pub coarser : (e d : ℕ) → e ≤ d → d ≤ 32 → unitAt d * 2 ^ (4 * (d - e)) ≡ unitAt e
 coarser e d h l =
     let q : 128 - 4 * d + 4 * (d - e) ≡ 128 - 4 * e = omega arith in
     sym (pow-add 2 (128 - 4 * d) (4 * (d - e))) ∙ ap (λ (n : ℕ). 2 ^ n) q

@@ -3,3 +3,4 @@ pub mod Inspect
 pub mod Posting
 pub mod Marks
 pub mod Image
+pub mod Entering

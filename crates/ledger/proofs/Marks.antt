@@ -30,10 +30,10 @@ byte-lt m from (suc n) = go (m (from + n)) (byte-lt m from n)
     go false h = omega arith
 
 -- what stands above bit i does not matter to it, and 2 ^ n is bit n
-high-off : (a c i : ℕ) → (a + c * 2 * 2 ^ i) / 2 ^ i % 2 ≡ a / 2 ^ i % 2
+pub high-off : (a c i : ℕ) → (a + c * 2 * 2 ^ i) / 2 ^ i % 2 ≡ a / 2 ^ i % 2
 high-off a c i = ap (λ (x : ℕ). x % 2) (add-mul-div-right a (c * 2) (pow-pos i)) ∙ (omega arith)
 
-pow-under : (i n : ℕ) → i < n → 2 ^ n ≡ 2 ^ (n - suc i) * 2 * 2 ^ i
+pub pow-under : (i n : ℕ) → i < n → 2 ^ n ≡ 2 ^ (n - suc i) * 2 * 2 ^ i
 pow-under i n h =
     let e : n ≡ suc (n - suc i) + i = omega arith in
     ap (λ (x : ℕ). 2 ^ x) e ∙ pow-add 2 (suc (n - suc i)) i ∙ ap (λ (x : ℕ). x * 2 ^ i) (pow-suc 2 (n - suc i))

@@ -12,7 +12,7 @@ use lib.IntN.{pos}
 use lib.ListN.{length, getD, set, take, drop}
 use lib.Pow.{pow-add, pow-pos}
 use lib.Seq.{take-all}
-use Rattle.algebra.proofs.Booleans.{and-left, and-right}
+use Rattle.algebra.proofs.Booleans.{and-right, neither}
 use Rattle.words.specs.Bytes.{bytesOf, valueOf, field}
 use Rattle.series.specs.Series.{modulus}
 use Rattle.run.specs.Refusal.{refusal}
@@ -85,11 +85,6 @@ pub record Passed (lim : Limits) (s : List ℕ) (p C row block : ℕ) (sum : Lis
 pub inside : {lim : Limits} {s : List ℕ} {p C row block : ℕ} {sum : List ℕ} → Passed lim s p C row block sum → markAt row block < length s
 inside {lim} {s} {p} {C} {row} {block} h = mark-inside lim s p C row block (h .sized) (h .range) (h .ticket)
 
-or-false : (a b : Bool) → (not a || not b) ≡ false → (a ≡ true) × (b ≡ true)
-or-false true true e = (refl, refl)
-or-false true false e = (refl, sym e)
-or-false false b e = (sym e, let z : true ≡ false = e in cc)
-
 module _ (lim : Limits) (s : List ℕ) (p C row block : ℕ) (sum : List ℕ) where
   abbrev number : ℕ
   number = ticketRefusal lim (viewOf lim s) p C row block sum
@@ -103,13 +98,13 @@ module _ (lim : Limits) (s : List ℕ) (p C row block : ℕ) (sum : List ℕ) wh
       let d = passes 4 _ _ (c .1) in
       let f = passes 5 _ _ (d .1) in
       let g = passes 6 _ _ (f .1) in
-      let sizes = or-false (eqb (length s) (ledgerSize lim)) (eqb (length sum) 16) (a .0) in
+      let sizes = neither (not (eqb (length s) (ledgerSize lim))) (not (eqb (length sum) 16)) (a .0) in
       let t = not-false (isTicket lim C row block) (c .0) in
       let r = not-false (eqb p (posIn s) && eqb C (blocksIn s)) (f .0) in
       let blocks = eqb-true C (blocksIn s) (and-right (eqb p (posIn s)) (eqb C (blocksIn s)) r) in
       record {
-        sized = eqb-true (length s) (ledgerSize lim) (sizes .0);
-        sum-sized = eqb-true (length sum) 16 (sizes .1);
+        sized = eqb-true (length s) (ledgerSize lim) (not-false _ (sizes .0));
+        sum-sized = eqb-true (length sum) 16 (not-false _ (sizes .1));
         range = not-false (inRange lim p C) (b .0);
         ticket = t;
         ordered = not-false (inOrder lim s) (d .0);

@@ -3,7 +3,7 @@
 -- Assumes nothing.
 use mathlib.Core.Path.{_≡_, refl, sym, ap, _∙_}
 use mathlib.Core.Bool.{Bool, true, false, cond}
-use mathlib.Core.List.{List, _∷_}
+use mathlib.Core.List.{List, [], _∷_, _++_}
 use Prim.Native.Nat.{ℕ, zero, suc, _<_}
 use native.Mathlib.Omega.{arith}
 use borrow.Author.Tests.{ne-eqb}
@@ -21,6 +21,21 @@ pub passes : (n : ℕ) (b : Bool) (ts : List Test) → refusal ((suc n ⇐ b) �
 unfolding refusal
 passes n true ts e = absurd (let z : suc n ≡ 0 = e in omega arith)
 passes n false ts e = (refl, e)
+
+-- a test that does not apply may be left out, and a refusal by the first tests stands whatever comes after them
+pub skipped : (n : ℕ) (b : Bool) (ts : List Test) → b ≡ false → refusal ((n ⇐ b) ∷ ts) ≡ refusal ts
+unfolding refusal
+skipped n b ts e = rw e refl
+
+pub refused-first : (ts us : List Test) (n : ℕ) → refusal ts ≡ suc n → refusal (ts ++ us) ≡ suc n
+unfolding refusal
+refused-first [] us n e = absurd (let z : 0 ≡ suc n = e in omega arith)
+refused-first (t ∷ ts) us n e = go (t .applies) (refused-first ts us n) e
+  where
+    go : (b : Bool) → (refusal ts ≡ suc n → refusal (ts ++ us) ≡ suc n) → cond b (t .number) (refusal ts) ≡ suc n
+        → cond b (t .number) (refusal (ts ++ us)) ≡ suc n
+    go true later f = f
+    go false later f = later f
 
 -- ---- from the number
 
@@ -61,8 +76,13 @@ unfolding answer
 was-finished a v zero value f e = (refl, cc)
 was-finished a v (suc n) value f e = absurd (let z : _≡_ {A = ℕ} 0 1 = cc (ap answerOf f) in omega arith)
 
+-- a refusal has some number, whatever the call's value
+pub was-number : (a : Answer) (r : Refusal) (number value : ℕ) → a ≡ Refused r → answerOf a ≡ answer number value
+    → (n : ℕ) × (number ≡ suc n) × (negsuc n ≡ answerOf (Refused r))
+unfolding answer
+was-number a r zero value f e = absurd (below-zero (numberOf r) value (some-number r) (sym (ap answerOf f) ∙ e))
+was-number a r (suc n) value f e = (n, refl, sym e ∙ ap answerOf f)
+
 pub was-refused : (a : Answer) (r : Refusal) (number value : ℕ) (new old : List ℕ) → a ≡ Refused r → answerOf a ≡ answer number value
     → old ≡ cond (eqb number 0) new old
-unfolding answer
-was-refused a r zero value new old f e = absurd (below-zero (numberOf r) value (some-number r) (sym (ap answerOf f) ∙ e))
-was-refused a r (suc n) value new old f e = kept (suc n) n new old refl
+was-refused a r number value new old f e = let n = was-number a r number value f e in kept number (n .0) new old (n .1)

@@ -1,6 +1,6 @@
-pub mod Sides
 pub mod Bellard
 pub mod FewRows
-pub mod Table
 pub mod Numbers
 pub mod RangeSums
+pub mod Sides
+pub mod Table

@@ -16,6 +16,7 @@ use Rattle.algebra.proofs.Sums.{sum-ext, sum-zero, sum-bump}
 use Rattle.series.specs.Series.{Formula, rowCount, modulus}
 use Rattle.run.specs.Refusal.{refusal}
 use Rattle.run.specs.Run.{limitsOf, inRange, isTicket, ticketSum}
+use Rattle.run.proofs.Answering.{passes}
 use Rattle.run.proofs.Range.{ticket-row, ticket-block, is-ticket}
 use Rattle.ledger.specs.Plain.{Plain, Entry, plainView, admit, including, isOf, opened}
 use Rattle.ledger.specs.Calls.{ticketRefusal}
@@ -23,7 +24,7 @@ use Rattle.ledger.proofs.Image.{Good, including-here, including-else}
 use Rattle.sheet.specs.Sheet.{entries}
 use Rattle.sheet.specs.Calls.{sheetRefusal}
 use Rattle.sheet.specs.Posts.{Post, ticket, sheet, postRefusal, postEntries, plainPost, plainPosts, occurring, occurrences, contains}
-use Rattle.sheet.proofs.Simulation.{Ready, good-admit, good-opened, pass, post-ready, step}
+use Rattle.sheet.proofs.Simulation.{Ready, good-admit, good-opened, post-ready, step}
 use Rattle.settlement.specs.Settlement.{Filled, allSums}
 
 module _ (F : Formula) (p C : ℕ) where
@@ -80,11 +81,11 @@ module _ (F : Formula) (p C : ℕ) where
   taken-occurs : (s : Plain) (a : Post) → postRefusal (limitsOf F) (plainView s) a ≡ 0 → occurring (limitsOf F) s a ≡ postEntries a
   unfolding occurring postRefusal ticketRefusal plainView postEntries
   taken-occurs s (ticket q D row block x) e =
-      let e₁ = pass 0 _ _ e in
-      let e₂ = pass 1 _ _ (e₁ .1) in
-      let e₄ = pass 3 _ _ (e₂ .1) in
-      let e₅ = pass 4 _ _ (e₄ .1) in
-      let e₆ = pass 5 _ _ (e₅ .1) in
+      let e₁ = passes 0 _ _ e in
+      let e₂ = passes 1 _ _ (e₁ .1) in
+      let e₄ = passes 3 _ _ (e₂ .1) in
+      let e₅ = passes 4 _ _ (e₄ .1) in
+      let e₆ = passes 5 _ _ (e₅ .1) in
       let a : (eqb q (s .p) && eqb D (s .C)) ≡ true = not-false _ (e₆ .0) in
       let b : eqb (length x) 16 ≡ true = not-false _ (e₁ .0) in
       rw (a, b) refl

@@ -2,3 +2,10 @@ pub mod Simulation
 pub mod Many
 pub mod Sheets
 pub mod RoundTrip
+pub mod Each
+pub mod Testing
+pub mod Over
+pub mod Admitting
+pub mod PostTests
+pub mod Pairs
+pub mod WriteTests

@@ -13,7 +13,7 @@ use lib.ListN.{length, getD, take, drop, length-append}
 use lib.Pow.{pow-pos}
 use lib.Seq.{getD-drop, take-at}
 use Rattle.algebra.specs.Test.{allBelow}
-use Rattle.algebra.proofs.Booleans.{and-left, and-right}
+use Rattle.algebra.proofs.Booleans.{and-left, and-right, neither}
 use Rattle.algebra.proofs.Below.{all-true, all-at}
 use Rattle.algebra.proofs.Integers.{residue-lt}
 use Rattle.words.specs.Bytes.{bytesOf, valueOf, field, AllBytes}
@@ -21,37 +21,34 @@ use Rattle.words.proofs.Bytes.{length-bytes}
 use Rattle.series.specs.Series.{Formula, rowCount, modulus, rangeSum}
 use Rattle.run.specs.Refusal.{Test, _⇐_, refusal, answer}
 use Rattle.run.specs.Run.{Limits, limitsOf, inRange, isTicket, ticketSum}
+use Rattle.run.proofs.Answering.{passes}
 use Rattle.run.proofs.Range.{Range, range-of, ticket-row, ticket-block}
 use Rattle.ledger.specs.Ledger.{View}
 use Rattle.ledger.specs.Plain.{Entry}
 use Rattle.sheet.specs.Sheet.{sheetLength, sheetMost, listMost, sheetPos, sheetBlocks, sheetCount, entries, every, allTickets, key, ascending, wellFormed, contentsOf, bodiesOf, sheetOf, listOf, listed}
 use Rattle.sheet.specs.Calls.{over, writeRefusal, writeAnswer, writeBytes, readRefusal, readAnswer, readList, readSums, sheetRefusal}
 use Rattle.sheet.specs.RoundTrip.{Fits, written, ReadsBack, WrittenReadsBack, Accepted, RightSums, AcceptedIsWritten}
-use Rattle.sheet.proofs.Simulation.{pass, formed}
+use Rattle.sheet.proofs.Simulation.{formed}
 use Rattle.sheet.proofs.Many.{run-holds, count-entries, count-listed}
 use Rattle.sheet.proofs.Sheets.{Fitting, pos-read, blocks-read, count-read, entries-read, sheet-again, length-contents}
 
-neither : (a b : Bool) → (a || b) ≡ false → (a ≡ false) × (b ≡ false)
-neither true b e = absurd (let z : _≡_ {A = ℕ} 0 1 = cc in omega arith)
-neither false b e = (refl, e)
-
 -- ---- what the writer has tested
 
-record Taken (F : Formula) (p C : ℕ) (list out : List ℕ) : Type 0 where
-  even : length list % 2 ≡ 0
-  short : length list ≤ listMost (limitsOf F)
-  room : sheetLength (length list / 2) ≤ length out
-  range : inRange (limitsOf F) p C ≡ true
-  ascends : ascending (listed F p C list) ≡ true
-  tickets : allTickets (limitsOf F) C (listed F p C list) ≡ true
+pub record Taken (F : Formula) (p C : ℕ) (list out : List ℕ) : Type 0 where
+  pub even : length list % 2 ≡ 0
+  pub short : length list ≤ listMost (limitsOf F)
+  pub room : sheetLength (length list / 2) ≤ length out
+  pub range : inRange (limitsOf F) p C ≡ true
+  pub ascends : ascending (listed F p C list) ≡ true
+  pub tickets : allTickets (limitsOf F) C (listed F p C list) ≡ true
 
-taken-of : (F : Formula) (p C : ℕ) (list out : List ℕ) → writeRefusal F p C list out ≡ 0 → Taken F p C list out
+pub taken-of : (F : Formula) (p C : ℕ) (list out : List ℕ) → writeRefusal F p C list out ≡ 0 → Taken F p C list out
 unfolding writeRefusal
 taken-of F p C list out e =
-    let e₁ = pass 0 _ _ e in
-    let e₂ = pass 1 _ _ (e₁ .1) in
-    let e₃ = pass 2 _ _ (e₂ .1) in
-    let e₄ = pass 3 _ _ (e₃ .1) in
+    let e₁ = passes 0 _ _ e in
+    let e₂ = passes 1 _ _ (e₁ .1) in
+    let e₃ = passes 2 _ _ (e₂ .1) in
+    let e₄ = passes 3 _ _ (e₃ .1) in
     let b = neither (eqb (length list % 2) 1 || ltb (listMost (limitsOf F)) (length list)) (ltb (length out) (sheetLength (length list / 2))) (e₁ .0) in
     let a = neither (eqb (length list % 2) 1) (ltb (listMost (limitsOf F)) (length list)) (b .0) in
     let odd = eqb-false (length list % 2) 1 (a .0) in
@@ -79,12 +76,12 @@ of-taken F p C list out t =
 
 -- ---- lengths
 
-length-bodies : (ts : List Entry) → length (bodiesOf ts) ≡ 16 * length ts
+pub length-bodies : (ts : List Entry) → length (bodiesOf ts) ≡ 16 * length ts
 unfolding bodiesOf bytesOf
 length-bodies [] = refl
 length-bodies (t ∷ ts) = let h = length-bodies ts in omega (arith, h)
 
-length-sheet : (p C : ℕ) (ts : List Entry) → length (sheetOf p C ts) ≡ sheetLength (length ts)
+pub length-sheet : (p C : ℕ) (ts : List Entry) → length (sheetOf p C ts) ≡ sheetLength (length ts)
 unfolding sheetOf bytesOf
 length-sheet p C ts =
     let c = length-contents ts in
@@ -92,7 +89,7 @@ length-sheet p C ts =
     let a = length-append (contentsOf ts) (bodiesOf ts) in
     omega (arith, a, b, c)
 
-length-list : (ts : List Entry) → length (listOf ts) ≡ 2 * length ts
+pub length-list : (ts : List Entry) → length (listOf ts) ≡ 2 * length ts
 unfolding listOf bytesOf
 length-list [] = refl
 length-list (t ∷ ts) = let h = length-list ts in omega (arith, h)
@@ -335,10 +332,10 @@ accepted-is-written F fits s out bytes acc right room = is-written F fits s out 
 pub read-accepted : (lim : Limits) (s list sums : List ℕ) → readRefusal lim s list sums ≡ 0 → Accepted lim s
 unfolding readRefusal
 read-accepted lim s list sums e =
-    let e₁ = pass 0 _ _ e in
-    let e₂ = pass 1 _ _ (e₁ .1) in
-    let e₃ = pass 2 _ _ (e₂ .1) in
-    let e₄ = pass 3 _ _ (e₃ .1) in
+    let e₁ = passes 0 _ _ e in
+    let e₂ = passes 1 _ _ (e₁ .1) in
+    let e₃ = passes 2 _ _ (e₂ .1) in
+    let e₄ = passes 3 _ _ (e₃ .1) in
     let c = neither (ltb (length s) 16 || ltb (sheetMost lim) (length s) || ltb (length list) (2 * sheetCount s)) _ (e₁ .0) in
     let b = neither (ltb (length s) 16 || ltb (sheetMost lim) (length s)) _ (c .0) in
     let a = neither (ltb (length s) 16) (ltb (sheetMost lim) (length s)) (b .0) in
@@ -353,10 +350,10 @@ read-accepted lim s list sums e =
 pub post-accepted : (lim : Limits) (v : View) (s : List ℕ) → sheetRefusal lim v s ≡ 0 → Accepted lim s
 unfolding sheetRefusal
 post-accepted lim v s e =
-    let e₁ = pass 0 _ _ e in
-    let e₂ = pass 1 _ _ (e₁ .1) in
-    let e₃ = pass 2 _ _ (e₂ .1) in
-    let e₄ = pass 3 _ _ (e₃ .1) in
+    let e₁ = passes 0 _ _ e in
+    let e₂ = passes 1 _ _ (e₁ .1) in
+    let e₃ = passes 2 _ _ (e₂ .1) in
+    let e₄ = passes 3 _ _ (e₃ .1) in
     let b = neither (not (v .sized) || ltb (length s) 16) (ltb (sheetMost lim) (length s)) (e₁ .0) in
     let a = neither (not (v .sized)) (ltb (length s) 16) (b .0) in
     record {

@@ -17,6 +17,7 @@ use Rattle.algebra.proofs.Booleans.{and-left, and-right, and-both}
 use Rattle.words.specs.Bytes.{field}
 use Rattle.run.specs.Refusal.{Test, _⇐_, refusal, answer}
 use Rattle.run.specs.Run.{Limits, inRange, isTicket}
+use Rattle.run.proofs.Answering.{passes}
 use Rattle.ledger.specs.Ledger.{View, viewOf, fresh}
 use Rattle.ledger.specs.Plain.{Plain, Entry, plainView, encode, admit, including, opened}
 use Rattle.ledger.specs.Calls.{ticketRefusal, ticketAnswer, ticketBytes}
@@ -67,7 +68,7 @@ entered lim s (t ∷ ts) g r =
 
 -- ---- a sheet's tickets are ready
 
-every-and : (f g h : Entry → Bool) → ((t : Entry) → f t ≡ true → g t ≡ true → h t ≡ true)
+pub every-and : (f g h : Entry → Bool) → ((t : Entry) → f t ≡ true → g t ≡ true → h t ≡ true)
     → (ts : List Entry) → every f ts ≡ true → every g ts ≡ true → every h ts ≡ true
 unfolding every
 every-and f g h i [] a b = refl
@@ -110,11 +111,6 @@ ready lim s (t ∷ ts) a b c = (
 
 -- ---- what a post that is not refused has passed
 
-pub pass : (n : ℕ) (b : Bool) (ts : List Test) → refusal ((suc n ⇐ b) ∷ ts) ≡ 0 → (b ≡ false) × (refusal ts ≡ 0)
-unfolding refusal
-pass n true ts e = absurd (omega (arith, e))
-pass n false ts e = (refl, e)
-
 pub formed : (b : List ℕ) → wellFormed b ≡ true → ascending (entries b) ≡ true
 unfolding wellFormed
 formed b h = and-right
@@ -123,22 +119,22 @@ formed b h = and-right
 pub post-ready : (lim : Limits) (s : Plain) (a : Post) → postRefusal lim (plainView s) a ≡ 0 → Ready lim s (postEntries a)
 unfolding postRefusal ticketRefusal sheetRefusal plainView postEntries
 post-ready lim s (ticket p C row block sum) e =
-    let e₁ = pass 0 _ _ e in
-    let e₂ = pass 1 _ _ (e₁ .1) in
-    let e₄ = pass 3 _ _ (e₂ .1) in
-    let e₅ = pass 4 _ _ (e₄ .1) in
-    let e₆ = pass 5 _ _ (e₅ .1) in
-    let e₇ = pass 6 _ _ (e₆ .1) in
+    let e₁ = passes 0 _ _ e in
+    let e₂ = passes 1 _ _ (e₁ .1) in
+    let e₄ = passes 3 _ _ (e₂ .1) in
+    let e₅ = passes 4 _ _ (e₄ .1) in
+    let e₆ = passes 5 _ _ (e₅ .1) in
+    let e₇ = passes 6 _ _ (e₆ .1) in
     let c = eqb-true C (s .C) (and-right (eqb p (s .p)) (eqb C (s .C)) (not-false _ (e₆ .0))) in
     (subst (λ (n : ℕ). isTicket lim n row block ≡ true) c (not-false _ (e₄ .0)), e₇ .0, tt)
 post-ready lim s (sheet b) e =
-    let e₁ = pass 0 _ _ e in
-    let e₂ = pass 1 _ _ (e₁ .1) in
-    let e₃ = pass 2 _ _ (e₂ .1) in
-    let e₄ = pass 3 _ _ (e₃ .1) in
-    let e₅ = pass 4 _ _ (e₄ .1) in
-    let e₆ = pass 5 _ _ (e₅ .1) in
-    let e₇ = pass 6 _ _ (e₆ .1) in
+    let e₁ = passes 0 _ _ e in
+    let e₂ = passes 1 _ _ (e₁ .1) in
+    let e₃ = passes 2 _ _ (e₂ .1) in
+    let e₄ = passes 3 _ _ (e₃ .1) in
+    let e₅ = passes 4 _ _ (e₄ .1) in
+    let e₆ = passes 5 _ _ (e₅ .1) in
+    let e₇ = passes 6 _ _ (e₆ .1) in
     let c = eqb-true (sheetBlocks b) (s .C) (and-right (eqb (sheetPos b) (s .p)) (eqb (sheetBlocks b) (s .C)) (not-false _ (e₆ .0))) in
     ready lim s (entries b) (subst (λ (n : ℕ). allTickets lim n (entries b) ≡ true) c (not-false _ (e₄ .0)))
     (not-false _ (e₇ .0)) (formed b (not-false _ (e₃ .0)))

@@ -1,0 +1,151 @@
+# make digits P=1000000   the digits of pi from position P on
+# make test               the gate: proofs and tests, as .ci/run has them
+# make check              the tests in C alone; SEED= and COUNT= for other random cases
+# make bench              times, beside plain C
+# make published          Table 4 of document 001 at 10^7 and 10^8; published-long: 10^9 to 10^11, in hours
+# make install PREFIX=..  header, library, pkg-config file
+# ENGINE=build/standin/libengine.a on any of them: the stand-in in C in the engine's place
+
+CC = gcc
+CXX = g++
+PREFIX = /usr/local
+P = 1000000
+SEED = 1
+COUNT = 3000
+LONG = 1000000000 10000000000 100000000000
+PROCESSES =
+
+# The calls that the engine has. Their tests are test_CALL.
+CALLS = work open post sheet_write sheet_read sheet_post close
+
+PROVED = target/staticlib/libengine.a
+STANDIN = build/standin/libengine.a
+ENGINE = $(PROVED)
+CLOSER = target/bin/closer
+# Programs linked with the one are kept apart from those linked with the other.
+OUT = build/$(if $(filter $(PROVED),$(ENGINE)),engine,standin)
+
+WARN = -std=c99 -Wall -Wextra -Wpedantic -Werror
+INCLUDE = -Iinclude -Itests -Iexamples
+CFLAGS = -O2
+LDFLAGS =
+TEST_FLAGS = $(WARN) -D_GNU_SOURCE $(INCLUDE) -O1 -g -fsanitize=address,undefined -fno-sanitize-recover=all
+PLAIN_FLAGS = $(WARN) -D_GNU_SOURCE $(INCLUDE) -O1
+PROGRAM_FLAGS = $(WARN) $(INCLUDE) $(CFLAGS)
+
+# Tests of several calls at once go with the calls that they need.
+has = $(filter $(1),$(CALLS))
+TESTS = $(CALLS) $(if $(call has,work),tickets) $(if $(and $(call has,open),$(call has,post),$(call has,sheet_post)),list)
+CLOSES = $(call has,close)
+
+SUPPORT = common sheets vectors reference $(if $(CLOSES),reference_close)
+HEADERS = $(wildcard include/*.h tests/*.h examples/*.h bench/*.h)
+
+# Until there is a crate `engine`, the tests that need no engine are all.
+HAVE_ENGINE = $(or $(filter-out $(PROVED),$(ENGINE)),$(shell grep -s '^engine[[:space:]]*:' crates.txt))
+
+ALONE = 'bash tests/header.sh build' 'build/test_reference' 'bash tests/mutants/run.sh build/mutants $(TESTS)'
+WITH_ENGINE = 'bash tests/symbols.sh $(ENGINE) $(CALLS)' $(foreach t,$(TESTS),'$(OUT)/test_$(t) $(SEED) $(COUNT)')
+WITH_CLOSING = 'bash tests/examples.sh $(OUT)/minimal $(OUT)/acceptance' \
+	'$(OUT)/published 1000000' '$(OUT)/published overlap 1000000' \
+	'bash tests/farm.sh $(OUT)/farm $(OUT)/farm-test' 'bash tests/install.sh $(CURDIR)/$(OUT)/install' \
+	$(if $(filter $(PROVED),$(ENGINE)),'bash tests/closer.sh $(CLOSER)')
+COMMANDS = $(ALONE) $(if $(HAVE_ENGINE),$(WITH_ENGINE) $(if $(CLOSES),$(WITH_CLOSING)))
+BUILT = build/test_reference $(TESTS:%=build/mutants/test_%) \
+	$(if $(HAVE_ENGINE),$(TESTS:%=$(OUT)/test_%) $(if $(CLOSES),$(addprefix $(OUT)/,minimal acceptance published farm) $(if $(filter $(PROVED),$(ENGINE)),$(CLOSER))))
+
+.PHONY: digits test check bench published published-long install vectors clean standin
+
+digits: $(OUT)/acceptance
+	@$(OUT)/acceptance $(P)
+
+test:
+	bash .ci/run
+
+check: $(BUILT)
+	@CC="$(CC)" CXX="$(CXX)" ENGINE="$(ENGINE)" LDFLAGS="$(LDFLAGS)" bash tests/run.sh $(COMMANDS)
+
+bench: $(OUT)/bench
+	$(OUT)/bench
+
+published: $(OUT)/published
+	$(OUT)/published 10000000 100000000
+
+# Finished tickets are kept under the checksum of the library that worked them; `clean` leaves them.
+published-long: $(OUT)/farm $(OUT)/published
+	@kept=published/$$(sha256sum $(ENGINE) | cut -c1-16); mkdir -p $$kept; \
+	for p in $(LONG); do \
+		$(OUT)/farm $$p 256 $$kept/$$p $(PROCESSES) >$$kept/$$p.closing && cat $$kept/$$p.closing && \
+		$(OUT)/published - <$$kept/$$p.closing || exit 1; \
+	done
+
+install: $(ENGINE)
+	install -d $(DESTDIR)$(PREFIX)/include $(DESTDIR)$(PREFIX)/lib/pkgconfig
+	install -m 644 include/bbp.h $(DESTDIR)$(PREFIX)/include/bbp.h
+	install -m 644 $(ENGINE) $(DESTDIR)$(PREFIX)/lib/libbbp.a
+	sed 's,@PREFIX@,$(PREFIX),' bbp.pc.in >$(DESTDIR)$(PREFIX)/lib/pkgconfig/bbp.pc
+
+vectors:
+	python3 tools/vectors.py >vectors.txt
+
+clean:
+	rm -rf build target
+
+# The engine and the closing program: proved, then written.
+SOURCES = crates.txt $(shell find crates -name '*.rt' -o -name '*.antt')
+
+$(PROVED): $(SOURCES)
+	rt staticlib engine
+
+$(CLOSER): $(SOURCES)
+	rt check closer
+	touch $@
+
+standin: $(STANDIN)
+$(STANDIN): build/plain/engine.o
+	@mkdir -p $(@D)
+	rm -f $@
+	ar rcs $@ $<
+
+# Objects of the tests with the sanitizers, and without them for the wrong engines.
+build/sanitized/%.o: tests/%.c $(HEADERS)
+	@mkdir -p $(@D)
+	$(CC) $(TEST_FLAGS) -c $< -o $@
+
+build/plain/%.o: tests/%.c $(HEADERS)
+	@mkdir -p $(@D)
+	$(CC) $(PLAIN_FLAGS) -c $< -o $@
+
+build/plain/engine.o: tests/mutants/engine.c $(HEADERS)
+	@mkdir -p $(@D)
+	$(CC) $(PLAIN_FLAGS) -O2 -c $< -o $@
+
+build/test_reference: $(patsubst %,build/sanitized/%.o,test_reference $(SUPPORT))
+	$(CC) $(TEST_FLAGS) $^ $(LDFLAGS) -o $@
+
+$(OUT)/test_%: build/sanitized/test_%.o $(patsubst %,build/sanitized/%.o,$(SUPPORT)) $(ENGINE)
+	@mkdir -p $(@D)
+	$(CC) $(TEST_FLAGS) $^ $(LDFLAGS) -o $@
+
+build/mutants/test_%: build/plain/test_%.o $(patsubst %,build/plain/%.o,$(SUPPORT)) $(STANDIN)
+	@mkdir -p $(@D)
+	$(CC) $(PLAIN_FLAGS) $^ -o $@
+
+# Programs.
+$(OUT)/minimal $(OUT)/acceptance: $(OUT)/%: examples/%.c $(HEADERS) $(ENGINE)
+	@mkdir -p $(@D)
+	$(CC) $(PROGRAM_FLAGS) $< $(ENGINE) $(LDFLAGS) -o $@
+
+$(OUT)/farm: tools/farm.c $(HEADERS) $(ENGINE)
+	@mkdir -p $(@D)
+	$(CC) $(PROGRAM_FLAGS) $< $(ENGINE) $(LDFLAGS) -o $@
+
+$(OUT)/published: tests/published.c $(HEADERS) $(ENGINE)
+	@mkdir -p $(@D)
+	$(CC) $(PROGRAM_FLAGS) $< $(ENGINE) $(LDFLAGS) -o $@
+
+$(OUT)/bench: bench/bench.c bench/plain.c $(HEADERS) $(ENGINE)
+	@mkdir -p $(@D)
+	$(CC) $(WARN) $(INCLUDE) -O3 bench/bench.c bench/plain.c $(ENGINE) $(LDFLAGS) -o $@
+
+.PRECIOUS: build/sanitized/%.o build/plain/%.o

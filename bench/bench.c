@@ -1,0 +1,161 @@
+/*
+ * Times of the engine, in processor time, as minima of several repetitions.
+ * Working is compared with the plain C of bench/plain.c on the same tickets,
+ * turn by turn. Figures say nothing about whether answers are right; the two
+ * are compared all the same, so that equal work is timed.
+ */
+#define _POSIX_C_SOURCE 200809L
+
+#include <bbp.h>
+
+#include <inttypes.h>
+#include <stdio.h>
+#include <stdlib.h>
+#include <string.h>
+#include <time.h>
+
+#include "plain.h"
+
+enum { BLOCKS = 256, REPETITIONS = 7 };
+
+/* Every `step`-th block of each row, so that a repetition takes some tenths of a second. */
+static const struct {
+    uint64_t p, first, step;
+} runs[] = {{1000000, 0, 1}, {10000000, 8, 16}, {100000000, 64, 128}};
+
+static double seconds(void)
+{
+    struct timespec now;
+    clock_gettime(CLOCK_PROCESS_CPUTIME_ID, &now);
+    return (double)now.tv_sec + 1e-9 * (double)now.tv_nsec;
+}
+
+static double least(double x, double y)
+{
+    return x < y ? x : y;
+}
+
+static void engine_work(uint64_t p, uint64_t c, uint64_t row, uint64_t block, uint8_t sum[16])
+{
+    if (bbp_work(p, c, row, block, sum, 16) != 0) {
+        fputs("bench: a ticket is refused\n", stderr);
+        exit(1);
+    }
+}
+
+typedef void work(uint64_t p, uint64_t c, uint64_t row, uint64_t block, uint8_t sum[16]);
+
+/* The time of a run's sample of tickets; their sums go one after the other into `sums`. */
+static double time_tickets(work *ticket, int run, uint8_t *sums)
+{
+    double began = seconds();
+    for (uint64_t row = 0; row < BBP_ROWS; row++)
+        for (uint64_t block = runs[run].first; block < BLOCKS; block += runs[run].step, sums += 16)
+            ticket(runs[run].p, BLOCKS, row, block, sums);
+    return seconds() - began;
+}
+
+/* Prints the ratio and gives the engine's time for the whole run. */
+static double compare_work(int run)
+{
+    static uint8_t sums[2][BBP_ROWS * BLOCKS * 16];
+    double engine = 1e9, plain = 1e9;
+    for (int i = 0; i < REPETITIONS; i++) {
+        engine = least(engine, time_tickets(engine_work, run, sums[0]));
+        plain = least(plain, time_tickets(plain_work, run, sums[1]));
+    }
+    if (memcmp(sums[0], sums[1], sizeof sums[0]) != 0) {
+        fputs("bench: the engine and the plain C differ\n", stderr);
+        exit(1);
+    }
+    uint64_t blocks = (BLOCKS - runs[run].first + runs[run].step - 1) / runs[run].step;
+    double whole = engine * BLOCKS / (double)blocks;
+    printf("p = %-10" PRIu64 " engine %.3f s, plain C %.3f s, engine / plain C %.3f; whole run about %.1f s\n", runs[run].p,
+           engine, plain, engine / plain, whole);
+    return whole;
+}
+
+static double terms_by_bits(uint64_t p)
+{
+    int bits = 0;
+    for (uint64_t n = 4 * p; n > 0; n /= 2)
+        bits++;
+    return (double)((4 * (p - 1) + 130) / 10 + 1) * bits;
+}
+
+static uint8_t ledger[BBP_LEDGER_SIZE], list[BBP_LIST_MAX], sheet[BBP_SHEET_MAX], sums[BBP_ROWS * BLOCKS * 16];
+
+static void open_ledger(void)
+{
+    if (bbp_open(1, BLOCKS, ledger, sizeof ledger) != 0)
+        exit(1);
+}
+
+static void need(const char *call, int64_t answer)
+{
+    if (answer < 0) {
+        fprintf(stderr, "bench: %s is refused with %" PRId64 "\n", call, -answer);
+        exit(1);
+    }
+}
+
+static void post_all(void)
+{
+    for (uint64_t row = 0; row < BBP_ROWS; row++)
+        for (uint64_t block = 0; block < BLOCKS; block++)
+            need("post", bbp_post(ledger, sizeof ledger, 1, BLOCKS, row, block, sums, 16));
+}
+
+static void read_sheet(void)
+{
+    static uint8_t read_list[BBP_LIST_MAX], read_sums[sizeof sums];
+    need("sheet read", bbp_sheet_read(sheet, sizeof sheet, read_list, sizeof read_list, read_sums, sizeof read_sums));
+}
+
+static void post_sheet(void)
+{
+    need("sheet post", bbp_sheet_post(ledger, sizeof ledger, sheet, sizeof sheet));
+}
+
+static void close_ledger(void)
+{
+    uint8_t digits[BBP_DIGITS_SIZE];
+    need("close", bbp_close(ledger, sizeof ledger, digits, sizeof digits));
+}
+
+static void nothing(void)
+{
+}
+
+static void time_call(const char *what, void (*before)(void), void (*call)(void))
+{
+    double best = 1e9;
+    for (int i = 0; i < 200; i++) {
+        before();
+        double began = seconds();
+        call();
+        best = least(best, seconds() - began);
+    }
+    printf("%-52s %9.1f us\n", what, 1e6 * best);
+}
+
+static void compare_books(void)
+{
+    for (uint64_t i = 0; i < BBP_ROWS * BLOCKS; i++)
+        list[2 * i] = (uint8_t)i, list[2 * i + 1] = (uint8_t)(i / 256);
+    need("sheet write", bbp_sheet_write(1, BLOCKS, list, sizeof list, sheet, sizeof sheet));
+    time_call("post of all 1,792 tickets, one by one", open_ledger, post_all);
+    time_call("reading a sheet of 1,792 tickets", nothing, read_sheet);
+    time_call("posting a sheet of 1,792 tickets", open_ledger, post_sheet);
+    time_call("closing a full ledger of C = 256", nothing, close_ledger);
+}
+
+int main(void)
+{
+    double near = compare_work(0), far = compare_work(1);
+    compare_work(2);
+    printf("from p = 10^6 to 10^7: time grows by %.2f, terms x bits by %.2f\n", far / near,
+           terms_by_bits(runs[1].p) / terms_by_bits(runs[0].p));
+    compare_books();
+    return 0;
+}

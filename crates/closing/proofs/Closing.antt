@@ -1,0 +1,208 @@
+-- The ways through closing: the number of the refusal for each test in order, and the digits written where none applies.
+-- Assumes nothing.
+use mathlib.Core.Path.{_≡_, refl, sym, ap, _∙_, subst}
+use mathlib.Core.Bool.{Bool, true, false, not, cond, _&&_}
+use mathlib.Core.List.{List, _++_}
+use Prim.Native.Nat.{ℕ, zero, suc, _+_, _*_, _-_, _/_, _%_, _^_, _<_, _≤_}
+use native.Mathlib.Omega.{arith}
+use borrow.Author.Tests.{eqb-true, eqb-false, not-false, eq-eqb, ne-eqb, ltb-true, ltb-false}
+use lib.Dec.{eqb, ltb}
+use lib.IntN.{ℤ, pos, subℕ}
+use lib.ListN.{length, drop}
+use Rattle.algebra.specs.Test.{allBelow}
+use Rattle.algebra.specs.Whole.{quotient, sameℤ}
+use Rattle.algebra.proofs.Booleans.{and-left, neither}
+use Rattle.algebra.proofs.Below.{all-ext}
+use Rattle.words.specs.Bytes.{field}
+use Rattle.series.specs.Series.{Formula, rowCount, termCount, plus, minus}
+use Rattle.series.specs.Fitting.{Position}
+use Rattle.series.specs.Names.{formulaOf}
+use Rattle.series.specs.declared.Series.{Series}
+use Rattle.series.specs.declared.Series.the-variants.{Bellard}
+use Rattle.interval.specs.Interval.{low, high, charges, unitAt}
+use Rattle.interval.specs.Digits.{settledUpTo, settled, lowDigits}
+use Rattle.run.specs.Refusal.{refusal}
+use Rattle.run.specs.Run.{Limits, limitsOf, inRange, isTicket}
+use Rattle.run.proofs.Range.{Range, range-of, is-ticket}
+use Rattle.run.specs.Answers.{answerOf}
+use Rattle.run.specs.declared.Answer.{Answer}
+use Rattle.run.specs.declared.Answer.the-variants.{Finished, Refused}
+use Rattle.run.specs.declared.Refusal.{Refusal}
+use Rattle.run.proofs.Answering.{passes, changed, was-finished, was-refused}
+use Rattle.ledger.specs.Ledger.{ledgerSize, posIn, blocksIn, totalIn, bitIn, markIn, inOrder}
+use Rattle.closing.specs.Closing.{Ordered, lowOf, highOf, settledAt, digitsAt, closeRefusal, closeAnswer, closeBytes}
+use Rattle.closing.proofs.TopDigits.{negative-none, sub-pos, sub-exact}
+
+-- ---- what an ordered ledger says
+
+order-range : (lim : Limits) (s : List ℕ) → inOrder lim s ≡ true → Range lim (posIn s) (blocksIn s)
+unfolding inOrder
+order-range lim s e = range-of lim (posIn s) (blocksIn s) (and-left (inRange lim (posIn s) (blocksIn s)) _ (and-left _ _ e))
+
+pub ordered-position : (F : Formula) (s : List ℕ) → inOrder (limitsOf F) s ≡ true → Position F (posIn s)
+ordered-position F s e = let r = order-range (limitsOf F) s e in record { low = r .p-low; high = r .p-high }
+
+pub ordered-blocks : (lim : Limits) (s : List ℕ) → inOrder lim s ≡ true → blocksIn s ≤ 256
+ordered-blocks lim s e = order-range lim s e .C-high
+
+-- the bits of the run's tickets are their marks
+pub bits-are-marks : (lim : Limits) (s : List ℕ)
+    → allBelow (lim .rows) (λ row. allBelow (blocksIn s) (λ block. bitIn s row block))
+    ≡ allBelow (lim .rows) (λ row. allBelow (blocksIn s) (λ block. markIn lim s row block))
+unfolding markIn
+bits-are-marks lim s =
+    all-ext (lim .rows) _ _ (λ row h. all-ext (blocksIn s) _ _ (λ block l. rw (is-ticket lim (blocksIn s) row block h l) refl))
+
+-- ---- the refusals, in order
+
+module _ (F : Formula) (s out : List ℕ) where
+  pub ledger-size : (length s ≡ ledgerSize (limitsOf F) → ⊥) → closeRefusal F s out ≡ 1
+  unfolding closeRefusal refusal
+  ledger-size h = rw (ne-eqb (length s) (ledgerSize (limitsOf F)) h) refl
+
+  module _ (sized : length s ≡ ledgerSize (limitsOf F)) where
+    pub digits-size : (length out ≡ 32 → ⊥) → closeRefusal F s out ≡ 1
+    unfolding closeRefusal refusal
+    digits-size h = rw (eq-eqb (length s) (ledgerSize (limitsOf F)) sized, ne-eqb (length out) 32 h) refl
+
+    module _ (room : length out ≡ 32) where
+      pub out-of-order : inOrder (limitsOf F) s ≡ false → closeRefusal F s out ≡ 5
+      unfolding closeRefusal refusal
+      out-of-order h = rw (eq-eqb (length s) (ledgerSize (limitsOf F)) sized, eq-eqb (length out) 32 room, h) refl
+
+      module _ (order : inOrder (limitsOf F) s ≡ true) where
+        abbrev full : Bool
+        full = allBelow (rowCount F) (λ row. allBelow (blocksIn s) (λ block. bitIn s row block))
+
+        pub unmarked : full ≡ false → closeRefusal F s out ≡ 8
+        unfolding closeRefusal refusal
+        unmarked h =
+            rw (eq-eqb (length s) (ledgerSize (limitsOf F)) sized, eq-eqb (length out) 32 room, order, ← bits-are-marks (limitsOf F) s, h) refl
+
+        pub unsettled : full ≡ true → settledAt F (posIn s) (totalIn s) ≡ 0 → closeRefusal F s out ≡ 9
+        unfolding closeRefusal refusal
+        unsettled h d =
+            rw (
+              eq-eqb (length s) (ledgerSize (limitsOf F)) sized,
+              eq-eqb (length out) 32 room,
+              order,
+              ← bits-are-marks (limitsOf F) s,
+              h,
+              d,
+            ) refl
+
+        pub closes : full ≡ true → (settledAt F (posIn s) (totalIn s) ≡ 0 → ⊥) → closeRefusal F s out ≡ 0
+        unfolding closeRefusal refusal
+        closes h d =
+            rw (
+              eq-eqb (length s) (ledgerSize (limitsOf F)) sized,
+              eq-eqb (length out) 32 room,
+              order,
+              ← bits-are-marks (limitsOf F) s,
+              h,
+              ne-eqb (settledAt F (posIn s) (totalIn s)) 0 d,
+            ) refl
+
+-- ---- the lower end, where a digit is settled
+
+settled-at-most : (lo hi : ℤ) (n : ℕ) → settledUpTo lo hi n ≤ n
+unfolding settledUpTo
+settled-at-most lo hi zero = omega arith
+settled-at-most lo hi (suc d) = go (sameℤ (quotient lo (unitAt (suc d))) (quotient hi (unitAt (suc d)))) (settled-at-most lo hi d)
+  where
+    go : (b : Bool) → settledUpTo lo hi d ≤ d → cond b (suc d) (settledUpTo lo hi d) ≤ suc d
+    go true h = omega arith
+    go false h = omega arith
+
+pub settled-few : (F : Formula) (p total : ℕ) → settledAt F p total ≤ 32
+unfolding settledAt settled
+settled-few F p total = settled-at-most (lowOf F p total) (highOf F p total) 32
+
+-- it is not below 0
+pub low-in : (F : Formula) (p total : ℕ) → (settledAt F p total ≡ 0 → ⊥) → charges F minus p (termCount F p) + 1 ≤ total
+unfolding settledAt low high
+low-in F p total n = go (ltb total (charges F minus p (termCount F p) + 1)) refl
+  where
+    go : (b : Bool) → ltb total (charges F minus p (termCount F p) + 1) ≡ b → charges F minus p (termCount F p) + 1 ≤ total
+    go true e = absurd (n (sym (negative-none total (charges F minus p (termCount F p) + 1) (total + charges F plus p (termCount F p) + 1) (ltb-true _ _ e))))
+    go false e = ltb-false _ _ e
+
+pub low-is : (F : Formula) (M p total r : ℕ) → (settledAt F p total ≡ 0 → ⊥) → total < M → r < M
+    → (r + (charges F minus p (termCount F p) + 1)) % M ≡ total → lowOf F p total ≡ pos r
+unfolding low
+low-is F M p total r n h l e =
+    let i = low-in F p total n in
+    sub-pos total (charges F minus p (termCount F p) + 1) i ∙ ap pos (sym (sub-exact M total (charges F minus p (termCount F p) + 1) r h l i e))
+
+-- ---- what the code reads of a ledger
+
+pub position-read : (F : Formula) (s : List ℕ) (p : ℕ) → Ordered (limitsOf F) s → p ≡ field s 0 8 → Position F p
+unfolding posIn
+position-read F s p o e = subst (λ (n : ℕ). Position F n) (sym e) (ordered-position F s (o .ordered))
+
+pub blocks-read : (lim : Limits) (s : List ℕ) (c : ℕ) → inOrder lim s ≡ true → c ≡ field s 8 2 → c ≤ 256
+unfolding blocksIn
+blocks-read lim s c o e = subst (λ (n : ℕ). n ≤ 256) (sym e) (ordered-blocks lim s o)
+
+pub full-read : (F : Formula) (s : List ℕ) (rows c : ℕ) (r : Bool) → rows ≡ rowCount F → c ≡ field s 8 2
+    → r ≡ allBelow rows (λ row. allBelow c (λ block. bitIn s row block))
+    → r ≡ allBelow (rowCount F) (λ row. allBelow (blocksIn s) (λ block. bitIn s row block))
+unfolding blocksIn
+full-read F s rows c r n b e = rw (n, b) at e
+
+pub count-small : (f : Series) (p k : ℕ) → Position (formulaOf f) p → k ≡ termCount (formulaOf f) p → k ≤ 2 ^ 60
+unfolding termCount
+count-small Bellard p k h e = omega (arith, h, e)
+
+module _ (F : Formula) (s : List ℕ) (p k b T : ℕ) (p-is : p ≡ field s 0 8) (k-is : k ≡ termCount F p)
+    (b-is : b ≡ charges F minus p k) (T-is : T ≡ field s 16 16) where
+  pub settle-is : (a d : ℕ) → a ≡ charges F plus p k → d ≡ settled (subℕ T (b + 1)) (pos (T + a + 1)) → d ≡ settledAt F (posIn s) (totalIn s)
+  unfolding settledAt low high posIn totalIn
+  settle-is a d a-is e = rw (b-is, a-is, k-is, p-is, T-is) at e
+
+  pub lower-is : (r x : ℕ) → (settledAt F (posIn s) (totalIn s) ≡ 0 → ⊥) → T < 2 ^ 128 → r < 2 ^ 128 → x ≡ b + 1 → (r + x) % 2 ^ 128 ≡ T
+      → lowOf F (posIn s) (totalIn s) ≡ pos r
+  unfolding posIn totalIn
+  lower-is r x n t l x-is e =
+      low-is F (2 ^ 128) (field s 0 8) (field s 16 16) r n (subst (λ (m : ℕ). m < 2 ^ 128) T-is t) l (rw (x-is, b-is, k-is, p-is, T-is) at e)
+
+-- ---- what has been tested where nothing is refused
+
+pub record Tested (F : Formula) (s out : List ℕ) : Type 0 where
+  pub ordered : Ordered (limitsOf F) s
+  pub room : length out ≡ 32
+  pub some : settledAt F (posIn s) (totalIn s) ≡ 0 → ⊥
+
+pub tested : (F : Formula) (s out : List ℕ) → closeRefusal F s out ≡ 0 → Tested F s out
+unfolding closeRefusal
+tested F s out e =
+    let e₁ = passes 0 _ _ e in
+    let e₅ = passes 4 _ _ (e₁ .1) in
+    let e₈ = passes 7 _ _ (e₅ .1) in
+    let e₉ = passes 8 _ _ (e₈ .1) in
+    let sizes = neither (not (eqb (length s) (ledgerSize (limitsOf F)))) (not (eqb (length out) 32)) (e₁ .0) in
+    record {
+      ordered = record { sized = eqb-true _ _ (not-false _ (sizes .0)); ordered = not-false _ (e₅ .0) };
+      room = eqb-true _ _ (not-false _ (sizes .1));
+      some = eqb-false (settledAt F (posIn s) (totalIn s)) 0 (e₉ .0);
+    }
+
+pub was-closed : (F : Formula) (s out : List ℕ) (a : Answer) (d : ℕ) → answerOf a ≡ closeAnswer F s out → a ≡ Finished d
+    → (closeRefusal F s out ≡ 0) × (d ≡ settledAt F (posIn s) (totalIn s))
+unfolding closeAnswer
+was-closed F s out a d e f = was-finished a d _ _ f e
+
+pub not-closed : (F : Formula) (s out : List ℕ) (a : Answer) (r : Refusal) → answerOf a ≡ closeAnswer F s out → a ≡ Refused r
+    → out ≡ closeBytes F s out
+unfolding closeAnswer closeBytes
+not-closed F s out a r e f = was-refused a r _ _ _ out f e
+
+-- ---- what is written
+
+pub digits-written : (F : Formula) (s out : List ℕ) (d x : ℕ) → closeRefusal F s out ≡ 0 → d ≡ settledAt F (posIn s) (totalIn s)
+    → lowOf F (posIn s) (totalIn s) ≡ pos x → lowDigits d (pos (x / unitAt d)) ++ drop d out ≡ closeBytes F s out
+unfolding closeBytes digitsAt
+digits-written F s out d x z e l =
+    ap (λ (w : ℤ). lowDigits d (quotient w (unitAt d)) ++ drop d out) (sym l)
+    ∙ ap (λ (k : ℕ). lowDigits k (quotient (lowOf F (posIn s) (totalIn s)) (unitAt k)) ++ drop k out) e
+    ∙ changed (closeRefusal F s out) _ out z

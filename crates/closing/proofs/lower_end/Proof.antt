@@ -1,0 +1,53 @@
+-- `closing::lower_end` meets its contract: total - (b + 1) does not wrap where a digit is settled.
+-- Assumes nothing.
+use mathlib.Core.Path.{refl}
+use Prim.Native.Nat.{_<_, _^_}
+use denote.Ref.{now}
+use Rattle.closing.proofs.TopDigits.{joined-lt, low-word}
+use Rattle.closing.proofs.Closing.{position-read, count-small, lower-is}
+use borrow.Author.Needs.{needs}
+use Rattle.closing.proofs.lower_end.Statement.{statement}
+use Rattle.closing.proofs.lower_end.Tie as tie
+
+get-requires : tie.Need-get-requires
+get-requires c κs = search needs
+
+term-count-requires : tie.Need-term-count-requires
+term-count-requires c κs = position-read _ (now (c .before .before .args .ledger)) _ (c .before .before .pre .0) (c .get .ensures)
+
+charges-requires : tie.Need-charges-requires
+charges-requires c κs =
+    let start = c .before .before .before in
+    count-small (start .args .f) _ _ (position-read _ (now (start .args .ledger)) _ (start .pre .0) (c .before .get .ensures)) (c .term-count .ensures)
+
+get-wide-requires : tie.Need-get-wide-requires
+get-wide-requires c κs = search needs
+
+add-t6 : tie.Need-add-t6
+add-t6 c = search needs
+
+sub-requires : tie.Need-sub-requires
+sub-requires c κs = search needs
+
+returns : tie.Need-returns
+returns c =
+    let count = c .before .before .before in
+    let start = count .before .before .before in
+    let h : (c .before .get-wide .result .hi < 2 ^ 64) × (c .before .get-wide .result .lo < 2 ^ 64) = search needs in
+    let l : (c .sub .result .hi < 2 ^ 64) × (c .sub .result .lo < 2 ^ 64) = search needs in
+    lower-is _ (now (start .args .ledger)) _ _ _ _ (count .before .get .ensures) (count .term-count .ensures)
+    (c .before .before .charges .ensures .0 _) (c .before .get-wide .ensures) _ _ (start .pre .1)
+    (joined-lt (2 ^ 128) _ _ refl (h .0) (h .1)) (joined-lt (2 ^ 128) _ _ refl (l .0) (l .1))
+    (low-word _) (c .sub .ensures)
+
+pub lower-end-spec : {M : Type 1} → statement M
+lower-end-spec =
+    tie.close
+    (tie.spec
+    get-requires
+    term-count-requires
+    charges-requires
+    get-wide-requires
+    add-t6
+    sub-requires
+    returns)

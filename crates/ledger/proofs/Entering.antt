@@ -1,0 +1,101 @@
+-- A ticket entered changes no bit but its own.
+-- Assumes nothing.
+use mathlib.Core.Path.{_≡_, refl, sym, ap, _∙_}
+use mathlib.Core.Bool.{Bool, true, false}
+use mathlib.Core.Logic.{_≢_}
+use mathlib.Core.List.{List, _++_}
+use Prim.Native.Nat.{ℕ, suc, _+_, _*_, _-_, _/_, _%_, _^_, _≤_, _<_}
+use native.Mathlib.Nat.{add-div-right, div-div-eq-div-mul, pow-suc}
+use native.Mathlib.Omega.{arith}
+use borrow.Author.Tests.{eqb-true, eqb-false, ltb-true, ltb-false}
+use lib.Dec.{eqb, ltb}
+use lib.ListN.{length, getD, set, take, drop, length-append, length-drop}
+use lib.Pow.{pow-add, pow-pos}
+use lib.Seq.{length-take-le, getD-append-add, getD-drop, getD-set-same, getD-set-other}
+use Rattle.words.specs.Bytes.{bytesOf, field}
+use Rattle.words.proofs.Bytes.{length-bytes}
+use Rattle.series.specs.Series.{modulus}
+use Rattle.ledger.specs.Ledger.{markAt, bitIn, enter}
+use Rattle.ledger.proofs.Marks.{high-off, pow-under}
+
+-- ---- one byte: bit k, which is 0, set
+
+module _ (b k : ℕ) (off : eqb (b / 2 ^ k % 2) 1 ≡ false) where
+  -- no carry out of bit k: the quotient by 2^k is even
+  no-carry : (b + 2 ^ k) / 2 ^ suc k ≡ b / 2 ^ suc k
+  no-carry =
+      let n = eqb-false (b / 2 ^ k % 2) 1 off in
+      let half : (b / 2 ^ k + 1) / 2 ≡ b / 2 ^ k / 2 = omega arith in
+      ap (λ (p : ℕ). (b + 2 ^ k) / p) (pow-suc 2 k)
+      ∙ sym (div-div-eq-div-mul (b + 2 ^ k) (2 ^ k) 2) ∙ ap (λ (q : ℕ). q / 2) (add-div-right b (pow-pos k)) ∙ half
+      ∙ div-div-eq-div-mul b (2 ^ k) 2 ∙ ap (λ (p : ℕ). b / p) (sym (pow-suc 2 k))
+
+  above : (j : ℕ) → k < j → (b + 2 ^ k) / 2 ^ j % 2 ≡ b / 2 ^ j % 2
+  above j h =
+      let e : j ≡ suc k + (j - suc k) = omega arith in
+      let p : 2 ^ j ≡ 2 ^ suc k * 2 ^ (j - suc k) = ap (λ (n : ℕ). 2 ^ n) e ∙ pow-add 2 (suc k) (j - suc k) in
+      ap (λ (n : ℕ). (b + 2 ^ k) / n % 2) p
+      ∙ ap (λ (n : ℕ). n % 2)
+      (sym (div-div-eq-div-mul (b + 2 ^ k) (2 ^ suc k) (2 ^ (j - suc k))) ∙ ap (λ (n : ℕ). n / 2 ^ (j - suc k)) no-carry
+      ∙ div-div-eq-div-mul b (2 ^ suc k) (2 ^ (j - suc k)))
+      ∙ ap (λ (n : ℕ). b / n % 2) (sym p)
+
+  below : (j : ℕ) → j < k → (b + 2 ^ k) / 2 ^ j % 2 ≡ b / 2 ^ j % 2
+  below j h = ap (λ (n : ℕ). (b + n) / 2 ^ j % 2) (pow-under j k h) ∙ high-off b (2 ^ (k - suc j)) j
+
+  other-bit : (j : ℕ) → j ≢ k → (b + 2 ^ k) / 2 ^ j % 2 ≡ b / 2 ^ j % 2
+  other-bit j ne = go (ltb j k) refl
+    where
+      go : (t : Bool) → ltb j k ≡ t → (b + 2 ^ k) / 2 ^ j % 2 ≡ b / 2 ^ j % 2
+      go true e = below j (ltb-true j k e)
+      go false e = above j (let l = ltb-false j k e in let n : j ≡ k → ⊥ = ne in omega arith)
+
+-- ---- the ledger
+
+-- a total written leaves what is past it
+abbrev totalled : List ℕ → ℕ → List ℕ
+totalled s x = take 16 s ++ bytesOf 16 x ++ drop 32 s
+
+module _ (s : List ℕ) (x : ℕ) (size : 32 ≤ length s) where
+  front : length (take 16 s ++ bytesOf 16 x) ≡ 32
+  front = let l = length-bytes 16 x in let m = length-take-le 16 s (omega arith) in length-append (take 16 s) (bytesOf 16 x) ∙ omega (arith, l, m)
+
+  length-totalled : length (totalled s x) ≡ length s
+  length-totalled =
+      let l = length-drop 32 s in
+      let m = front in
+      length-append (take 16 s ++ bytesOf 16 x) (drop 32 s) ∙ omega (arith, l, m)
+
+  past-total : (n : ℕ) → getD (totalled s x) (32 + n) 0 ≡ getD s (32 + n) 0
+  past-total n =
+      ap (λ (k : ℕ). getD (totalled s x) (k + n) 0) (sym front)
+      ∙ getD-append-add (take 16 s ++ bytesOf 16 x) (drop 32 s) n 0 ∙ getD-drop 32 s n 0
+
+module _ (s : List ℕ) (row block x : ℕ) (here : markAt row block < length s) (off : eqb (getD s (markAt row block) 0 / 2 ^ (block % 8) % 2) 1 ≡ false)
+    (r b : ℕ) (h : block < 256) (l : b < 256) (ne : 256 * r + b ≢ 256 * row + block) where
+  size : 32 ≤ length s
+  size = omega arith
+
+  abbrev byte : ℕ
+  byte = getD s (markAt row block) 0 + 2 ^ (block % 8)
+
+  by-byte : (t : Bool) → eqb (markAt r b) (markAt row block) ≡ t
+      → eqb (getD (set (totalled s x) (markAt row block) byte) (markAt r b) 0 / 2 ^ (b % 8) % 2) 1 ≡ eqb (getD s (markAt r b) 0 / 2 ^ (b % 8) % 2) 1
+  by-byte true e =
+      let same = eqb-true (markAt r b) (markAt row block) e in
+      let bits : b % 8 ≢ block % 8 = λ q. ne (omega (arith, q)) in
+      let long = length-totalled s x size in
+      let read = getD-set-same (totalled s x) (markAt row block) byte 0 (omega (arith, long)) in
+      ap (λ (n : ℕ). eqb (n / 2 ^ (b % 8) % 2) 1) (ap (λ (n : ℕ). getD (set (totalled s x) (markAt row block) byte) n 0) same ∙ read)
+      ∙ ap (λ (n : ℕ). eqb n 1) (other-bit (getD s (markAt row block) 0) (block % 8) off (b % 8) bits)
+      ∙ ap (λ (n : ℕ). eqb (getD s n 0 / 2 ^ (b % 8) % 2) 1) (sym same)
+  by-byte false e =
+      ap (λ (n : ℕ). eqb (n / 2 ^ (b % 8) % 2) 1)
+      (getD-set-other (totalled s x) (markAt row block) (markAt r b) byte 0 (eqb-false (markAt r b) (markAt row block) e)
+      ∙ past-total s x size (32 * r + b / 8))
+
+pub bit-kept : (s : List ℕ) (row block x : ℕ) → markAt row block < length s → bitIn s row block ≡ false → (r b : ℕ) → block < 256 → b < 256
+    → 256 * r + b ≢ 256 * row + block → bitIn (enter s row block x) r b ≡ bitIn s r b
+unfolding bitIn enter
+bit-kept s row block x here off r b h l ne =
+    by-byte s row block ((field s 16 16 + x) % modulus) here off r b h l ne (eqb (markAt r b) (markAt row block)) refl

@@ -1,0 +1,179 @@
+-- The tests of posting a sheet, one law for each way out; and what is known where none applies.
+-- Assumes nothing.
+use mathlib.Core.Path.{_≡_, refl, sym, ap, ap₂, _∙_}
+use mathlib.Core.Bool.{Bool, true, false, not, _&&_, _||_}
+use mathlib.Core.List.{List, [], _∷_, _++_, foldl}
+use Prim.Native.Nat.{ℕ, suc, _+_, _*_, _<_, _≤_}
+use native.Mathlib.Omega.{arith}
+use borrow.Author.Tests.{eqb-true, eq-eqb, ne-eqb, lt-ltb, le-ltb, not-true, not-false}
+use lib.Dec.{eqb, ltb}
+use lib.IntN.{pos, negsuc}
+use lib.ListN.{length}
+use Rattle.algebra.proofs.Booleans.{and-left, and-right, and-both, neither}
+use Rattle.words.specs.Bytes.{field}
+use Rattle.run.specs.Refusal.{Test, _⇐_, refusal, answer}
+use Rattle.run.specs.Run.{Limits, inRange, isTicket}
+use Rattle.run.specs.Answers.{answerOf}
+use Rattle.run.specs.declared.Refusal.{Refusal}
+use Rattle.run.specs.declared.Answer.{Answer}
+use Rattle.run.specs.declared.Answer.the-variants.{Finished, Refused}
+use Rattle.run.proofs.Range.{range-of, ticket-block}
+use Rattle.run.proofs.Answering.{passes, skipped, refused-first, refused, finished, changed, was-finished, was-number, was-refused}
+use Rattle.ledger.specs.Ledger.{viewOf, ledgerSize, posIn, blocksIn, markIn, inOrder}
+use Rattle.ledger.specs.Plain.{Entry}
+use Rattle.ledger.proofs.Posting.{mark-inside, mark-is-bit}
+use Rattle.sheet.specs.Sheet.{sheetLength, sheetMost, sheetPos, sheetBlocks, sheetCount, entriesFrom, entries, every, allTickets, ascending, wellFormed}
+use Rattle.sheet.specs.Tests.{byteTests, inside, unset, enterable}
+use Rattle.sheet.specs.Calls.{enterEntry, sheetRefusal, sheetAnswer, sheetBytes}
+use Rattle.sheet.proofs.Simulation.{every-and, formed}
+use Rattle.sheet.proofs.Testing.{formed-length}
+
+-- two tests that agree on what passes a third
+every-same : (f g h : Entry → Bool) → ((t : Entry) → h t ≡ true → f t ≡ g t) → (ts : List Entry) → every h ts ≡ true → every f ts ≡ every g ts
+unfolding every
+every-same f g h same [] a = refl
+every-same f g h same (t ∷ ts) a =
+    ap₂ _&&_ (same t (and-left (h t) (every h ts) a)) (every-same f g h same ts (and-right (h t) (every h ts) a))
+
+-- ---- tickets of the ledger's run
+
+module _ (lim : Limits) (ledger : List ℕ) (p C : ℕ) (ts : List Entry) (sized : length ledger ≡ ledgerSize lim) (range : inRange lim p C ≡ true)
+    (run : C ≡ blocksIn ledger) (tickets : allTickets lim C ts ≡ true) where
+  is-inside : (t : Entry) → isTicket lim C (t .row) (t .block) ≡ true → inside ledger t ≡ true
+  is-inside t h = lt-ltb _ _ (mark-inside lim ledger p C (t .row) (t .block) sized range h)
+
+  all-inside : every (inside ledger) ts ≡ true
+  all-inside = every-and _ _ (inside ledger) (λ t h l. is-inside t h) ts tickets tickets
+
+  by-bits : every (λ t. not (markIn lim ledger (t .row) (t .block))) ts ≡ every (unset ledger) ts
+  by-bits = every-same _ (unset ledger) _ (λ t h. ap not (mark-is-bit lim ledger C (t .row) (t .block) run h)) ts tickets
+
+  all-enterable : every (λ t. not (markIn lim ledger (t .row) (t .block))) ts ≡ true → every (enterable ledger) ts ≡ true
+  all-enterable none = every-and _ _ (enterable ledger)
+      (λ t h u.
+      let few = range-of lim p C range .C-high in
+      let low = ticket-block lim C (t .row) (t .block) h in
+      and-both _ _ (lt-ltb (t .block) 256 (omega arith)) (and-both _ _ (is-inside t h) u))
+      ts tickets (sym by-bits ∙ none)
+
+-- ---- the tests in their order
+
+module _ (lim : Limits) (ledger s : List ℕ) where
+  -- the tests of the ledger, which come last
+  abbrev ledgerTests : List Test
+  ledgerTests =
+      (5 ⇐ not (inOrder lim ledger)) ∷ (6 ⇐ not (eqb (sheetPos s) (posIn ledger) && eqb (sheetBlocks s) (blocksIn ledger)))
+      ∷ (7 ⇐ not (every (λ t. not (markIn lim ledger (t .row) (t .block))) (entries s))) ∷ []
+
+  pub ledger-size : (length ledger ≡ ledgerSize lim → ⊥) → negsuc 0 ≡ sheetAnswer lim ledger s
+  unfolding sheetAnswer sheetRefusal refusal answer viewOf
+  ledger-size h = rw (ne-eqb _ _ h) refl
+
+  module _ (sized : length ledger ≡ ledgerSize lim) where
+    pub short : length s < 16 → negsuc 0 ≡ sheetAnswer lim ledger s
+    unfolding sheetAnswer sheetRefusal refusal answer viewOf
+    short h = rw (eq-eqb _ _ sized, lt-ltb _ _ h) refl
+
+    module _ (low : 16 ≤ length s) (most : ℕ) (m : most ≡ sheetMost lim) where
+      pub long : most < length s → negsuc 0 ≡ sheetAnswer lim ledger s
+      unfolding sheetAnswer sheetRefusal refusal answer viewOf
+      long h = rw (eq-eqb _ _ sized, le-ltb _ _ low, lt-ltb (sheetMost lim) (length s) (rw m at h)) refl
+
+      module _ (high : length s ≤ most) (a : Answer) (tested : answerOf a ≡ answer (refusal (byteTests lim s)) 0) where
+        in-most : length s ≤ sheetMost lim
+        in-most = rw m at high
+
+        by-bytes : sheetRefusal lim (viewOf lim ledger) s ≡ refusal (byteTests lim s ++ ledgerTests)
+        unfolding sheetRefusal viewOf
+        by-bytes = skipped 1 _ _ (rw (eq-eqb _ _ sized, le-ltb _ _ low, le-ltb _ _ in-most) refl)
+
+        pub bytes-refused : (r : Refusal) → a ≡ Refused r → answerOf (Refused r) ≡ sheetAnswer lim ledger s
+        unfolding sheetAnswer
+        bytes-refused r f =
+            let n = was-number a r _ 0 f tested in
+            sym (n .2) ∙ refused _ (n .0) 0 (by-bytes ∙ refused-first (byteTests lim s) ledgerTests (n .0) (n .1))
+
+        module _ (v : ℕ) (f : a ≡ Finished v) where
+          byte-tests : refusal (byteTests lim s) ≡ 0
+          byte-tests = was-finished a v _ 0 f tested .0
+
+          range : inRange lim (sheetPos s) (sheetBlocks s) ≡ true
+          range = not-false _ (passes 1 _ _ byte-tests .0)
+
+          form : wellFormed s ≡ true
+          form = not-false _ (passes 2 _ _ (passes 1 _ _ byte-tests .1) .0)
+
+          tickets : allTickets lim (sheetBlocks s) (entries s) ≡ true
+          tickets = not-false _ (passes 3 _ _ (passes 2 _ _ (passes 1 _ _ byte-tests .1) .1) .0)
+
+          by-ledger : sheetRefusal lim (viewOf lim ledger) s ≡ refusal ledgerTests
+          by-ledger =
+              by-bytes ∙ skipped 2 _ _ (ap not range) ∙ skipped 3 _ ((4 ⇐ _) ∷ ledgerTests) (ap not form) ∙ skipped 4 _ ledgerTests (ap not tickets)
+
+          pub out-of-order : inOrder lim ledger ≡ false → negsuc 4 ≡ sheetAnswer lim ledger s
+          unfolding sheetAnswer refusal
+          out-of-order o = refused _ 4 0 (by-ledger ∙ rw o refl)
+
+          module _ (o : inOrder lim ledger ≡ true) (p C : ℕ) (ep : p ≡ field s 0 8) (eC : C ≡ field s 8 2)
+              (b : Bool) (same : b ≡ (eqb p (posIn ledger) && eqb C (blocksIn ledger))) where
+            pub other-run : b ≡ false → negsuc 5 ≡ sheetAnswer lim ledger s
+            unfolding sheetAnswer refusal sheetPos sheetBlocks
+            other-run u = refused _ 5 0 (by-ledger ∙ rw (o, ← ep, ← eC, ← same, u) refl)
+
+            module _ (u : b ≡ true) (e : ℕ) (counted : e ≡ sheetCount s) where
+              run : sheetBlocks s ≡ blocksIn ledger
+              unfolding sheetBlocks
+              run = sym eC ∙ eqb-true C (blocksIn ledger) (and-right (eqb p (posIn ledger)) _ (sym same ∙ u))
+
+              all : entries s ≡ entriesFrom s 0 e
+              unfolding entries
+              all = ap (entriesFrom s 0) (sym counted)
+
+              pub may-look : (16 + 4 * e ≤ length s) × (every (inside ledger) (entriesFrom s 0 e) ≡ true)
+              may-look =
+                  let l = formed-length s form in
+                  (omega (arith, l, counted), ap (every (inside ledger)) (sym all) ∙ all-inside lim ledger _ _ (entries s) sized range run tickets)
+
+              module _ (n : Bool) (none : n ≡ every (unset ledger) (entriesFrom s 0 e)) where
+                marks : every (λ t. not (markIn lim ledger (t .row) (t .block))) (entries s) ≡ n
+                marks = by-bits lim ledger _ _ (entries s) sized range run tickets ∙ ap (every (unset ledger)) all ∙ sym none
+
+                pub one-marked : n ≡ false → negsuc 6 ≡ sheetAnswer lim ledger s
+                unfolding sheetAnswer refusal sheetPos sheetBlocks
+                one-marked k = refused _ 6 0 (by-ledger ∙ rw (o, ← ep, ← eC, ← same, u, marks, k) refl)
+
+                pub admitted : n ≡ true → pos 0 ≡ sheetAnswer lim ledger s
+                unfolding sheetAnswer refusal sheetPos sheetBlocks
+                admitted k = finished _ 0 (by-ledger ∙ rw (o, ← ep, ← eC, ← same, u, marks, k) refl)
+
+-- ---- after the tests, by what they answered
+
+module _ (lim : Limits) (ledger s : List ℕ) (a : Answer) (tested : answerOf a ≡ sheetAnswer lim ledger s) where
+  pub none-applied : (v : ℕ) → a ≡ Finished v
+      → (length s ≡ sheetLength (sheetCount s)) × (ascending (entries s) ≡ true) × (every (enterable ledger) (entries s) ≡ true)
+  unfolding sheetAnswer sheetRefusal viewOf
+  none-applied v f =
+      let e₁ = passes 0 _ _ (was-finished a v _ 0 f tested .0) in
+      let e₂ = passes 1 _ _ (e₁ .1) in
+      let e₃ = passes 2 _ _ (e₂ .1) in
+      let e₄ = passes 3 _ _ (e₃ .1) in
+      let e₅ = passes 4 _ _ (e₄ .1) in
+      let e₆ = passes 5 _ _ (e₅ .1) in
+      let e₇ = passes 6 _ _ (e₆ .1) in
+      let size = neither (not (eqb (length ledger) (ledgerSize lim))) _ (neither (not (eqb (length ledger) (ledgerSize lim)) || ltb (length s) 16) _ (e₁ .0) .0) .0 in
+      let form = not-false _ (e₃ .0) in
+      let run = eqb-true (sheetBlocks s) (blocksIn ledger) (and-right (eqb (sheetPos s) (posIn ledger)) _ (not-false _ (e₆ .0))) in (
+        formed-length s form,
+        formed s form,
+        all-enterable lim ledger (sheetPos s) (sheetBlocks s) (entries s)
+            (eqb-true (length ledger) (ledgerSize lim) (not-false _ size)) (not-false _ (e₂ .0)) run (not-false _ (e₄ .0)) (not-false _ (e₇ .0)),
+      )
+
+  pub posted : (v : ℕ) (t : List ℕ) → a ≡ Finished v → t ≡ foldl enterEntry ledger (entries s)
+      → (pos 0 ≡ sheetAnswer lim ledger s) × (t ≡ sheetBytes lim ledger s)
+  unfolding sheetAnswer sheetBytes
+  posted v t f et = let z = was-finished a v _ 0 f tested .0 in (finished _ 0 z, et ∙ changed _ _ ledger z)
+
+  pub not-posted : (r : Refusal) → a ≡ Refused r → (answerOf (Refused r) ≡ sheetAnswer lim ledger s) × (ledger ≡ sheetBytes lim ledger s)
+  unfolding sheetAnswer sheetBytes
+  not-posted r f = (sym (ap answerOf f) ∙ tested, was-refused a r _ 0 _ ledger f tested)

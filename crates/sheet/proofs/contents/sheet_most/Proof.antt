@@ -1,0 +1,22 @@
+-- `sheet::contents::sheet_most` meets its contract: a formula has few rows.
+-- Assumes nothing.
+use native.Mathlib.Omega.{arith}
+use borrow.Author.Needs.{needs}
+use Rattle.series.proofs.FewRows.{few-rows}
+use Rattle.sheet.proofs.contents.sheet_most.Statement.{statement}
+use Rattle.sheet.proofs.contents.sheet_most.Tie as tie
+
+row-count-requires : tie.Need-row-count-requires
+row-count-requires c κs = search needs
+
+mul-result : tie.Need-mul-result
+mul-result c = omega (arith, few-rows (c .before .args .f))
+
+add-result : tie.Need-add-result
+add-result c = omega (arith, few-rows (c .before .args .f))
+
+returns : tie.Need-returns
+returns c = search needs
+
+pub sheet-most-spec : {M : Type 1} → statement M
+sheet-most-spec = tie.close (tie.spec row-count-requires mul-result add-result returns)

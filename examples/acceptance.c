@@ -1,0 +1,137 @@
+/*
+ * acceptance POSITION [BLOCKS] - opens a run, works all its tickets, closes it
+ * and prints the closing line: position, number of digits, digits.
+ *
+ * In each row every fourth ticket comes as a supplier's: it is written into a
+ * sheet, the sheet is read back, and posted as a whole. The others are worked
+ * and posted one by one.
+ */
+#define _POSIX_C_SOURCE 200809L
+
+#include <bbp.h>
+
+#include <inttypes.h>
+#include <stdio.h>
+#include <stdlib.h>
+#include <string.h>
+
+#include "progress.h"
+
+enum { SUPPLIED = 4 };
+
+static struct {
+    uint64_t p, c, done;
+    uint8_t ledger[BBP_LEDGER_SIZE];
+    struct progress bar;
+} run;
+
+static const char *meaning(int64_t answer)
+{
+    switch (-answer) {
+    case BBP_REFUSED_SIZE: return "a slice of the wrong size";
+    case BBP_REFUSED_RANGE: return "position or block count out of range";
+    case BBP_REFUSED_FORM: return "list or sheet not in its form";
+    case BBP_REFUSED_TICKET: return "row above 6, or block not below the block count";
+    case BBP_REFUSED_LEDGER: return "ledger not in order";
+    case BBP_REFUSED_RUN: return "ticket or sheet of another run than the ledger's";
+    case BBP_REFUSED_MARKED: return "ticket marked already";
+    case BBP_REFUSED_UNMARKED: return "a ticket of the run is not marked";
+    case BBP_REFUSED_UNSETTLED: return "the total does not settle the first digit";
+    default: return "an answer that is not in the refusal table";
+    }
+}
+
+/* Gives the answer of a finished call; a refusal ends the program. */
+static int64_t finished(const char *call, int64_t answer)
+{
+    if (answer < 0) {
+        fprintf(stderr, "%s: refused %" PRId64 ": %s\n", call, -answer, meaning(answer));
+        exit(1);
+    }
+    return answer;
+}
+
+static void tickets_done(uint64_t count)
+{
+    run.done += count;
+    progress_show(&run.bar, run.done);
+}
+
+static void work_and_post(uint64_t row, uint64_t block)
+{
+    uint8_t sum[BBP_SUM_SIZE];
+    finished("work", bbp_work(run.p, run.c, row, block, sum, sizeof sum));
+    finished("post", bbp_post(run.ledger, sizeof run.ledger, run.p, run.c, row, block, sum, sizeof sum));
+    tickets_done(1);
+}
+
+/* The list of a row's tickets that are supplied; gives its length. */
+static size_t supplied_list(uint64_t row, uint8_t *list)
+{
+    size_t e = 0;
+    for (uint64_t block = SUPPLIED - 1; block < run.c; block += SUPPLIED, e++) {
+        list[2 * e] = (uint8_t)block;
+        list[2 * e + 1] = (uint8_t)row;
+    }
+    return BBP_LIST_SIZE(e);
+}
+
+/* Reads a sheet back: it must hold the tickets that were ordered. */
+static void inspect(const uint8_t *sheet, size_t sheet_len, const uint8_t *list, size_t list_len)
+{
+    static uint8_t found[BBP_LIST_MAX], sums[BBP_SUMS_SIZE(BBP_LIST_MAX / 2)];
+    int64_t e = finished("sheet read", bbp_sheet_read(sheet, sheet_len, found, sizeof found, sums, sizeof sums));
+    if ((size_t)e != list_len / 2 || memcmp(found, list, list_len) != 0) {
+        fputs("the sheet does not hold the tickets that were ordered\n", stderr);
+        exit(1);
+    }
+}
+
+static void order_and_post(uint64_t row)
+{
+    static uint8_t list[BBP_LIST_MAX], sheet[BBP_SHEET_MAX];
+    size_t list_len = supplied_list(row, list);
+    int64_t answer = bbp_sheet_write(run.p, run.c, list, list_len, sheet, sizeof sheet);
+    size_t sheet_len = (size_t)finished("sheet write", answer);
+    inspect(sheet, sheet_len, list, list_len);
+    finished("sheet post", bbp_sheet_post(run.ledger, sizeof run.ledger, sheet, sheet_len));
+    tickets_done(list_len / 2);
+}
+
+static void work_run(void)
+{
+    run.bar = progress_start(BBP_ROWS * run.c);
+    for (uint64_t row = 0; row < BBP_ROWS; row++) {
+        for (uint64_t block = 0; block < run.c; block++)
+            if (block % SUPPLIED != SUPPLIED - 1)
+                work_and_post(row, block);
+        order_and_post(row);
+    }
+}
+
+static uint64_t number(const char *text)
+{
+    char *end;
+    uint64_t value = strtoull(text, &end, 10);
+    if (*text < '0' || *text > '9' || *end != '\0') {
+        fprintf(stderr, "not a number: %s\n", text);
+        exit(2);
+    }
+    return value;
+}
+
+int main(int argc, char **argv)
+{
+    uint8_t digits[BBP_DIGITS_SIZE];
+    if (argc != 2 && argc != 3) {
+        fputs("usage: acceptance POSITION [BLOCKS]\n", stderr);
+        return 2;
+    }
+    run.p = number(argv[1]);
+    run.c = argc == 3 ? number(argv[2]) : BBP_MAX_BLOCKS;
+    finished("open", bbp_open(run.p, run.c, run.ledger, sizeof run.ledger));
+    work_run();
+    int64_t d = finished("close", bbp_close(run.ledger, sizeof run.ledger, digits, sizeof digits));
+    printf("%" PRIu64 " %" PRId64 " %.*s\n", run.p, d, (int)d, (const char *)digits);
+    return 0;
+}

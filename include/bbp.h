@@ -1,0 +1,149 @@
+/*
+ * bbp.h - hexadecimal digits of pi at far positions, by Bellard's formula.
+ *
+ * A run is a position p (1 to 2^60, the first digit after the point being
+ * position 1) and a block count C (1 to 256). The seven rows of the formula
+ * are cut into C blocks each; one block of one row is a ticket. Tickets are
+ * worked one by one, here or by a supplier, and posted to the run's ledger,
+ * singly or as a sheet. A ledger with every ticket posted is closed: that
+ * gives the hexadecimal digits of pi from position p on that the run settles.
+ * Document 01 defines each word and each number.
+ *
+ * Answers. Every call answers an int64_t. A refusal is a number of the
+ * refusal table, negated; of all numbers whose condition holds the smallest
+ * is answered, and a refused call changes no byte of any slice. A call that
+ * is not refused answers 0, or the length, count or number of digits that its
+ * comment names.
+ *
+ * Slices. A byte slice is a pointer and then its length in bytes; it needs no
+ * alignment. The slices of one call must not overlap. An empty slice (length
+ * 0) may have a null pointer. A length is never more than the bytes that
+ * stand at the pointer.
+ *
+ * Numbers inside slices are unsigned and little-endian. The calls keep no
+ * state, allocate nothing and can be called from several threads at once, as
+ * long as no slice that one call writes is used by another.
+ */
+#ifndef BBP_H
+#define BBP_H
+
+#include <stddef.h>
+#include <stdint.h>
+
+#ifdef __cplusplus
+extern "C" {
+#endif
+
+/* The largest position, 2^60, and the largest block count. Rows are 0 to 6, blocks 0 to C - 1. */
+#define BBP_MAX_POSITION UINT64_C(1152921504606846976)
+#define BBP_MAX_BLOCKS 256
+#define BBP_ROWS 7
+
+/* Sizes of slices, in bytes. */
+#define BBP_LEDGER_SIZE 256 /* a ledger, exactly */
+#define BBP_SUM_SIZE 16     /* a ticket's sum, exactly */
+#define BBP_DIGITS_SIZE 32  /* the digits' slice of a closing, exactly */
+#define BBP_LIST_MAX 3584   /* a list of tickets, at most: 2 for each of 7 * 256 tickets */
+#define BBP_SHEET_MAX 35856 /* a sheet that is read or posted, at most */
+
+/* The length of a sheet of e tickets, and of its list and its sums when read. */
+#define BBP_SHEET_SIZE(e) (16 + 20 * (e))
+#define BBP_LIST_SIZE(e) (2 * (e))
+#define BBP_SUMS_SIZE(e) (16 * (e))
+
+/* A ticket as a list has it, in 2 bytes: row 0 to 6, block 0 to 255. */
+#define BBP_PAIR(row, block) (256 * (row) + (block))
+
+/*
+ * The refusal table. A refused call answers the number negated, so a caller
+ * compares -answer with these.
+ */
+enum bbp_refusal {
+    /* A slice of the wrong size: a ledger not of 256 bytes, a sum not of 16, digits not of 32; a list
+       of odd length or over 3,584; a sheet to read or post under 16 or over 35,856; a sheet to write
+       under 16 + 20e; read outputs under 2e or 16e, where e is the count in the sheet's head. */
+    BBP_REFUSED_SIZE = 1,
+    /* The position or the block count, of the call or in the sheet's head, is out of range. */
+    BBP_REFUSED_RANGE = 2,
+    /* A sheet's length is not 16 + 20e, one of its zero bytes is not zero, or a list or a sheet's
+       contents are not strictly ascending. */
+    BBP_REFUSED_FORM = 3,
+    /* A row above 6, or a block not below the block count of the call or of the sheet. */
+    BBP_REFUSED_TICKET = 4,
+    /* The ledger is not in order: p or C out of range, one of its 6 zero bytes not zero, or a mark
+       set at C or above. */
+    BBP_REFUSED_LEDGER = 5,
+    /* The position or the block count of the ticket or sheet is not the ledger's. */
+    BBP_REFUSED_RUN = 6,
+    /* The ticket, or one of the sheet's, is marked already. */
+    BBP_REFUSED_MARKED = 7,
+    /* Closing, and a ticket of the run is not marked. */
+    BBP_REFUSED_UNMARKED = 8,
+    /* Closing, and the total does not settle the first digit. */
+    BBP_REFUSED_UNSETTLED = 9
+};
+
+/*
+ * Works the ticket (p, c, row, block): writes its sum, the signed sum of its
+ * terms modulo 2^128, into the 16 bytes of `sum`. An empty block has sum 0.
+ * Answers 0, or refusal 1 (sum_len not 16), 2 or 4.
+ * The time grows with the number of terms, about 0.4 * p / c.
+ */
+int64_t bbp_work(uint64_t p, uint64_t c, uint64_t row, uint64_t block, uint8_t *sum, size_t sum_len);
+
+/*
+ * Opens the run (p, c): writes a fresh ledger, with no ticket marked and total
+ * 0, over all 256 bytes of `ledger`, whatever they held. Answers 0, or refusal
+ * 1 (ledger_len not 256) or 2.
+ */
+int64_t bbp_open(uint64_t p, uint64_t c, uint8_t *ledger, size_t ledger_len);
+
+/*
+ * Posts one ticket with the offered sum (16 bytes; it is not worked again):
+ * marks the ticket in the ledger and adds the sum to the total modulo 2^128.
+ * Answers 0, or refusal 1, 2, 4, 5, 6 or 7.
+ */
+int64_t bbp_post(uint8_t *ledger, size_t ledger_len, uint64_t p, uint64_t c, uint64_t row, uint64_t block,
+                 const uint8_t *sum, size_t sum_len);
+
+/*
+ * Works every ticket of a list and writes them as one sheet. `list` has 2
+ * bytes for each ticket, 256 * row + block, strictly ascending; it may be
+ * empty. With e tickets the sheet takes 16 + 20e bytes of `sheet`; bytes past
+ * them are left as found. Answers that length, or refusal 1 (list_len odd or
+ * over 3,584, or sheet_len under 16 + 20e), 2, 3 or 4.
+ */
+int64_t bbp_sheet_write(uint64_t p, uint64_t c, const uint8_t *list, size_t list_len, uint8_t *sheet, size_t sheet_len);
+
+/*
+ * Reads a sheet: with e tickets in it, writes their list into the first 2e
+ * bytes of `list` and their sums into the first 16e bytes of `sums`; bytes
+ * past them are left as found. The run is in the sheet's head: p in its bytes
+ * 0 to 7, C in its bytes 8 and 9. The sums are not worked again. Answers e, or
+ * refusal 1 (sheet_len under 16 or over 35,856, list_len under 2e, sums_len
+ * under 16e), 2, 3 or 4.
+ */
+int64_t bbp_sheet_read(const uint8_t *sheet, size_t sheet_len, uint8_t *list, size_t list_len,
+                       uint8_t *sums, size_t sums_len);
+
+/*
+ * Posts every ticket of a sheet, in order, or none: marks them and adds their
+ * sums to the total modulo 2^128. Answers 0, or refusal 1 (ledger_len not 256,
+ * sheet_len under 16 or over 35,856), 2, 3, 4, 5, 6 or 7.
+ */
+int64_t bbp_sheet_post(uint8_t *ledger, size_t ledger_len, const uint8_t *sheet, size_t sheet_len);
+
+/*
+ * Closes a ledger: writes the d digits that it settles, d from 1 to 32, as
+ * characters 0-9A-F into the first d bytes of `digits`; the other bytes are
+ * left as found. The first is the digit at position p. The ledger is not
+ * changed. Answers d, or refusal 1 (ledger_len not 256, digits_len not 32), 5,
+ * 8 or 9.
+ */
+int64_t bbp_close(const uint8_t *ledger, size_t ledger_len, uint8_t *digits, size_t digits_len);
+
+#ifdef __cplusplus
+}
+#endif
+
+#endif

@@ -1,0 +1,409 @@
+#include "common.h"
+
+#include <inttypes.h>
+#include <signal.h>
+#include <stdarg.h>
+#include <stdio.h>
+#include <stdlib.h>
+#include <string.h>
+#include <sys/mman.h>
+#include <unistd.h>
+
+/* Checks. */
+
+static const char *test_name;
+static uint64_t seed, count, checks, state;
+
+/* A read or write outside the lent slices, or a write to an input. */
+static void on_fault(int number, siginfo_t *info, void *context)
+{
+    (void)number;
+    (void)context;
+    dprintf(STDERR_FILENO, "%s, seed %" PRIu64 ", after check %" PRIu64 ": no access to %p is allowed\n", test_name, seed,
+            checks, info->si_addr);
+    _exit(1);
+}
+
+static void catch_faults(void)
+{
+    struct sigaction action = {.sa_sigaction = on_fault, .sa_flags = SA_SIGINFO};
+    sigaction(SIGSEGV, &action, NULL);
+    sigaction(SIGBUS, &action, NULL);
+}
+
+void start(const char *name, int argc, char **argv)
+{
+    test_name = name;
+    seed = argc > 1 ? strtoull(argv[1], NULL, 10) : 1;
+    count = argc > 2 ? strtoull(argv[2], NULL, 10) : 2000;
+    state = seed;
+    catch_faults();
+}
+
+int finish(void)
+{
+    printf("%s: %" PRIu64 " checks\n", test_name, checks);
+    return 0;
+}
+
+uint64_t case_count(void)
+{
+    return count;
+}
+
+void check(int holds, const char *file, int line, const char *format, ...)
+{
+    va_list arguments;
+    checks++;
+    if (holds)
+        return;
+    fprintf(stderr, "%s:%d: %s, seed %" PRIu64 ", check %" PRIu64 ": ", file, line, test_name, seed, checks);
+    va_start(arguments, format);
+    vfprintf(stderr, format, arguments);
+    va_end(arguments);
+    fputc('\n', stderr);
+    exit(1);
+}
+
+/* Random numbers (splitmix64). */
+
+uint64_t any(void)
+{
+    uint64_t z = state += UINT64_C(0x9E3779B97F4A7C15);
+    z = (z ^ z >> 30) * UINT64_C(0xBF58476D1CE4E5B9);
+    z = (z ^ z >> 27) * UINT64_C(0x94D049BB133111EB);
+    return z ^ z >> 31;
+}
+
+uint64_t below(uint64_t limit)
+{
+    return any() % limit;
+}
+
+void any_bytes(uint8_t *at, size_t len)
+{
+    for (size_t i = 0; i < len; i++)
+        at[i] = (uint8_t)any();
+}
+
+uint64_t bad_position(void)
+{
+    switch (below(4)) {
+    case 0: return 0;
+    case 1: return BBP_MAX_POSITION + 1;
+    case 2: return UINT64_MAX - below(3);
+    default: return BBP_MAX_POSITION + 1 + (any() >> (4 + below(60)));
+    }
+}
+
+uint64_t bad_blocks(void)
+{
+    switch (below(4)) {
+    case 0: return 0;
+    case 1: return 257;
+    case 2: return wide_number(1 + below(256));
+    default: return 257 + (any() >> (1 + below(63)));
+    }
+}
+
+uint64_t wide_number(uint64_t low)
+{
+    static const uint8_t widths[] = {9, 16, 32, 63};
+    return low + ((uint64_t)1 << widths[below(4)]);
+}
+
+uint64_t any_position_upto(uint64_t limit)
+{
+    uint64_t p = any() >> below(64);
+    return below(8) == 0 ? 1 + below(8 < limit ? 8 : limit) : 1 + p % limit;
+}
+
+uint64_t any_position(void)
+{
+    return below(8) == 0 ? BBP_MAX_POSITION - below(3) : any_position_upto(BBP_MAX_POSITION);
+}
+
+uint64_t any_blocks(void)
+{
+    static const uint16_t edges[] = {1, 2, 7, 8, 9, 16, 255, 256};
+    return below(2) == 0 ? edges[below(8)] : 1 + below(256);
+}
+
+size_t wrong_size(size_t size)
+{
+    static const int steps[] = {-1, 1, -8, 8, 64};
+    size_t wrong = below(4) == 0 ? below(size + 64) : size + (size_t)(int64_t)steps[below(5)];
+    return wrong == size || wrong > size + 64 ? size + 1 : wrong;
+}
+
+/* Lent slices. */
+
+enum { PAGE = 4096, ROOM = 320 * PAGE, GUARD = 64 };
+
+static struct slot {
+    uint8_t *room; /* ROOM bytes between two unmapped pages */
+    uint8_t *at;   /* the lent bytes */
+    size_t len;
+    uint8_t *guard; /* NULL for an empty slice */
+    uint8_t *kept;  /* what was lent */
+} slots[SLOTS];
+
+static uint8_t *map(size_t len, int protection)
+{
+    void *at = mmap(NULL, len, protection, MAP_PRIVATE | MAP_ANONYMOUS | MAP_NORESERVE, -1, 0);
+    if (at == MAP_FAILED) {
+        perror("mmap");
+        exit(2);
+    }
+    return at;
+}
+
+static void protect(uint8_t *at, size_t len, int protection)
+{
+    if (mprotect(at, len, protection) != 0) {
+        perror("mprotect");
+        exit(2);
+    }
+}
+
+static uint8_t guard_byte(size_t i)
+{
+    return (uint8_t)(0xA5 + 7 * i);
+}
+
+static void place_empty(struct slot *slot)
+{
+    uint8_t *places[] = {NULL, slot->room - PAGE, slot->room + ROOM};
+    slot->guard = NULL;
+    slot->at = places[below(3)];
+}
+
+static void place(struct slot *slot, const uint8_t *bytes, size_t len)
+{
+    int at_end = (int)below(2);
+    slot->at = at_end ? slot->room + ROOM - len : slot->room;
+    slot->guard = at_end ? slot->at - GUARD : slot->at + len;
+    memcpy(slot->at, bytes, len);
+    for (size_t i = 0; i < GUARD; i++)
+        slot->guard[i] = guard_byte(i);
+}
+
+uint8_t *lend(int number, const uint8_t *bytes, size_t len)
+{
+    struct slot *slot = &slots[number];
+    if (slot->room == NULL)
+        slot->room = map(ROOM + 2 * PAGE, PROT_NONE) + PAGE;
+    protect(slot->room, ROOM, PROT_READ | PROT_WRITE);
+    slot->len = len;
+    free(slot->kept);
+    slot->kept = copy_of(bytes, len);
+    if (len == 0)
+        place_empty(slot);
+    else
+        place(slot, bytes, len);
+    return slot->at;
+}
+
+const uint8_t *lend_input(int number, const uint8_t *bytes, size_t len)
+{
+    const uint8_t *at = lend(number, bytes, len);
+    protect(slots[number].room, ROOM, PROT_READ);
+    return at;
+}
+
+static size_t first_difference(const uint8_t *x, const uint8_t *y, size_t len)
+{
+    size_t i = 0;
+    while (i < len && x[i] == y[i])
+        i++;
+    return i;
+}
+
+void expect(int number, const uint8_t *bytes, const char *what)
+{
+    struct slot *slot = &slots[number];
+    size_t i = slot->len == 0 ? 0 : first_difference(slot->at, bytes, slot->len);
+    CHECK(i == slot->len, "%s: byte %zu of %zu is %02x and not %02x", what, i, slot->len,
+          i < slot->len ? slot->at[i] : 0, i < slot->len ? bytes[i] : 0);
+    for (i = 0; slot->guard != NULL && i < GUARD && slot->guard[i] == guard_byte(i);)
+        i++;
+    CHECK(slot->guard == NULL || i == GUARD, "%s: a byte outside the slice of %zu was changed", what, slot->len);
+}
+
+void expect_kept(int number, const char *what)
+{
+    expect(number, slots[number].kept, what);
+}
+
+static uint8_t *huge;
+
+size_t huge_length(size_t len)
+{
+    return ((size_t)1 << 32) + len;
+}
+
+uint8_t *lend_huge(void)
+{
+    if (huge == NULL) {
+        huge = map(huge_length(ROOM), PROT_READ);
+        protect(huge, PAGE, PROT_READ | PROT_WRITE);
+    }
+    return huge;
+}
+
+void expect_huge_kept(void)
+{
+    size_t i = 0;
+    while (i < PAGE && huge[i] == 0)
+        i++;
+    CHECK(i == PAGE, "a refused call changed byte %zu of a slice of over 2^32 bytes", i);
+}
+
+uint8_t *copy_of(const uint8_t *bytes, size_t len)
+{
+    uint8_t *copy = malloc(len > 0 ? len : 1);
+    if (copy == NULL) {
+        perror("malloc");
+        exit(2);
+    }
+    if (len > 0)
+        memcpy(copy, bytes, len);
+    return copy;
+}
+
+/* Pairs of refusals. */
+
+static uint64_t times_met[10][10];
+
+void met(ref_refusals refusals)
+{
+    for (int i = 1; i <= 9; i++)
+        for (int j = i; j <= 9; j++)
+            if ((refusals >> i & 1) && (refusals >> j & 1))
+                times_met[i][j]++;
+    if (refusals == 0)
+        times_met[0][0]++;
+}
+
+void require_met(const char *pairs)
+{
+    CHECK(times_met[0][0] > 0, "no case without a refusal was met");
+    for (const char *at = pairs; *at != '\0'; at++) {
+        int i = at[0] - '0', j = at[1] >= '0' && at[1] <= '9' ? at[1] - '0' : i;
+        CHECK(times_met[i][j] > 0, "no case was met to which %d and %d apply", i, j);
+        while (at[1] != '\0' && *at != ' ')
+            at++;
+    }
+}
+
+/* Numbers, ledgers, lists and sheets. */
+
+void put(uint8_t *at, size_t bytes, uint64_t value)
+{
+    for (size_t i = 0; i < bytes; i++)
+        at[i] = (uint8_t)(value >> 8 * i);
+}
+
+void set_mark(uint8_t *ledger, uint64_t row, uint64_t block, int marked)
+{
+    uint8_t bit = (uint8_t)(1 << block % 8), *at = ledger + 32 + 32 * row + block / 8;
+    *at = (uint8_t)(marked ? *at | bit : *at & ~bit);
+}
+
+uint64_t any_chance(void)
+{
+    static const uint16_t chances[] = {0, 1, 16, 128, 250, 256};
+    return chances[below(6)];
+}
+
+void any_ledger(uint8_t *ledger, uint64_t p, uint64_t c, uint64_t chance)
+{
+    memset(ledger, 0, 256);
+    put(ledger, 8, p);
+    put(ledger + 8, 2, c);
+    any_bytes(ledger + 16, 16);
+    for (uint64_t row = 0; row < 7; row++)
+        for (uint64_t block = 0; block < c; block++)
+            set_mark(ledger, row, block, below(256) < chance);
+}
+
+static void mark_beyond(uint8_t *ledger)
+{
+    uint64_t c = ref_load(ledger + 8, 2);
+    if (c < 256)
+        set_mark(ledger, below(7), below(2) == 0 ? c : c + below(256 - c), 1);
+    else
+        put(ledger + 8, 2, 257 + below(65535 - 257));
+}
+
+void spoil_ledger(uint8_t *ledger)
+{
+    switch (below(7)) {
+    case 0: put(ledger, 8, 0); break;
+    case 1: put(ledger, 8, BBP_MAX_POSITION + 1 + (any() >> (4 + below(60)))); break;
+    case 2: put(ledger + 8, 2, 0); break;
+    case 3: put(ledger + 8, 2, 257 + below(65536 - 257)); break;
+    case 4: ledger[10 + below(6)] = (uint8_t)(1 << below(8)); break;
+    default: mark_beyond(ledger); break;
+    }
+}
+
+size_t any_list(uint8_t *list, uint64_t c, uint64_t chance)
+{
+    size_t e = 0;
+    for (uint64_t row = 0; row < 7; row++)
+        for (uint64_t block = 0; block < c; block++)
+            if (below(256) < chance)
+                put(list + 2 * e++, 2, BBP_PAIR(row, block));
+    return e;
+}
+
+size_t any_sheet(uint8_t *sheet, uint64_t p, uint64_t c, const uint8_t *list, size_t e)
+{
+    memset(sheet, 0, 16 + 4 * e);
+    put(sheet, 8, p);
+    put(sheet + 8, 2, c);
+    put(sheet + 10, 2, e);
+    for (size_t i = 0; i < e; i++) {
+        sheet[16 + 4 * i] = list[2 * i + 1];
+        sheet[18 + 4 * i] = list[2 * i];
+    }
+    any_bytes(sheet + 16 + 4 * e, 16 * e);
+    return BBP_SHEET_SIZE(e);
+}
+
+/* Cases. */
+
+static int64_t smaller(int first, int second)
+{
+    int none = 10;
+    int x = first == NOTHING ? none : first, y = second == NOTHING ? none : second;
+    int least = x < y ? x : y;
+    return least == none ? 0 : -least;
+}
+
+static void run_pair(const struct suite *suite, int first, int second)
+{
+    suite->prepare();
+    int x = suite->damage(first), y = suite->damage(second);
+    int64_t answer = suite->compare();
+    if (x == UNSURE || y == UNSURE)
+        return;
+    int64_t wanted = smaller(x, y);
+    CHECK(wanted == 0 ? answer >= 0 : answer == wanted, "damages %d and %d: the answer is %" PRId64 " and not %" PRId64,
+          first, second, answer, wanted);
+}
+
+void run_suite(const struct suite *suite)
+{
+    for (int i = 0; i < suite->kinds; i++)
+        for (int j = 0; j < suite->kinds; j++)
+            for (int times = 0; times < 4; times++)
+                run_pair(suite, i, j);
+    for (uint64_t i = 0; i < count; i++) {
+        suite->prepare();
+        for (uint64_t damages = below(4); damages > 0; damages--)
+            suite->damage((int)below((uint64_t)suite->kinds));
+        suite->compare();
+    }
+}

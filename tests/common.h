@@ -1,0 +1,94 @@
+/*
+ * What the test programs share: counting checks, random numbers, slices lent
+ * at the edge of unmapped pages, and the pairs of refusals that were met.
+ */
+#ifndef COMMON_H
+#define COMMON_H
+
+#include <stddef.h>
+#include <stdint.h>
+
+#include "bbp.h"
+#include "reference.h"
+
+/* Arguments of a test program: its seed and its count of random cases; both have a default. */
+void start(const char *name, int argc, char **argv);
+/* Prints the number of checks and gives the exit status. */
+int finish(void);
+uint64_t case_count(void);
+
+/* One check. A failed one prints the message with the seed, and ends the program. */
+void check(int holds, const char *file, int line, const char *format, ...) __attribute__((format(printf, 4, 5)));
+#define CHECK(holds, ...) check((holds), __FILE__, __LINE__, __VA_ARGS__)
+
+/* Random numbers. `below` gives 0 to limit - 1. */
+uint64_t any(void);
+uint64_t below(uint64_t limit);
+void any_bytes(uint8_t *at, size_t len);
+uint64_t any_position(void);
+uint64_t any_position_upto(uint64_t limit);
+uint64_t any_blocks(void);
+/* A size that is wrong for a slice that must have `size` bytes; at most 64 more. */
+size_t wrong_size(size_t size);
+
+/*
+ * Slices lent to the engine. The bytes are copied to a place that ends at an
+ * unmapped page or starts after one, with guard bytes at the other side; an
+ * input is made read-only. An empty slice is a null pointer or one at an
+ * unmapped page. After the call, `expect` compares the bytes and the guards;
+ * `expect_kept` compares them with what was lent.
+ */
+enum { SLOTS = 3 };
+uint8_t *lend(int slot, const uint8_t *bytes, size_t len);
+const uint8_t *lend_input(int slot, const uint8_t *bytes, size_t len);
+void expect(int slot, const uint8_t *bytes, const char *what);
+void expect_kept(int slot, const char *what);
+/* A slice of 2^32 + len bytes, of which the first 4,096 are zero and can be written: a length cut to 32 bits shows. */
+uint8_t *lend_huge(void);
+size_t huge_length(size_t len);
+void expect_huge_kept(void);
+
+/* A copy on the heap, for the reference; freed by the caller. */
+uint8_t *copy_of(const uint8_t *bytes, size_t len);
+
+/* Pairs of refusals. `met` counts what applied to one case; `require_met` fails for a number or pair not met. */
+void met(ref_refusals refusals);
+void require_met(const char *pairs);
+
+/* Numbers in bytes, runs and ledgers for the cases. */
+void put(uint8_t *at, size_t bytes, uint64_t value);
+void set_mark(uint8_t *ledger, uint64_t row, uint64_t block, int marked);
+/* A ledger in order: random total, each ticket marked with the given chance in 256. */
+void any_ledger(uint8_t *ledger, uint64_t p, uint64_t c, uint64_t chance);
+/* Makes a ledger not in order in one of its ways. */
+void spoil_ledger(uint8_t *ledger);
+/* An ascending list of tickets, each taken with the given chance in 256; gives e. */
+size_t any_list(uint8_t *list, uint64_t c, uint64_t chance);
+/* The sheet of a list with random sums. */
+size_t any_sheet(uint8_t *sheet, uint64_t p, uint64_t c, const uint8_t *list, size_t e);
+uint64_t any_chance(void);
+
+/*
+ * A call's cases. `prepare` makes a case that nothing refuses; `damage` damages
+ * it in one of its kinds and gives the number of the refusal table that then
+ * applies, NOTHING where the case has no place for that damage, or UNSURE;
+ * `compare` makes the call, compares with the reference and gives the answer.
+ * `run_suite` tries every pair of kinds, where the answer must be the smaller
+ * of the two numbers, and then `count` cases with up to three random kinds.
+ */
+enum { NOTHING = 0, UNSURE = -1 };
+struct suite {
+    void (*prepare)(void);
+    int (*damage)(int kind);
+    int kinds;
+    int64_t (*compare)(void);
+};
+void run_suite(const struct suite *suite);
+
+/* A position or block count out of range. */
+uint64_t bad_position(void);
+uint64_t bad_blocks(void);
+/* A number that has the given one in its low 8, 16 or 32 bits. */
+uint64_t wide_number(uint64_t low);
+
+#endif

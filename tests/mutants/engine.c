@@ -1,0 +1,422 @@
+/*
+ * A stand-in for the engine, in C: the seven calls by Montgomery arithmetic
+ * and early returns, sharing no code with the reference. It is right unless
+ * the environment variable MUTANT names a number; then it is wrong in the one
+ * way that WRONG(number) marks. tests/mutants/run.sh shows that the tests pass
+ * on the right one and fail on each wrong one.
+ */
+#include "bbp.h"
+
+#include <stdlib.h>
+#include <string.h>
+
+static int mutant(void)
+{
+    static int number = -1;
+    if (number < 0)
+        number = getenv("MUTANT") != NULL ? atoi(getenv("MUTANT")) : 0;
+    return number;
+}
+
+#define WRONG(number) (mutant() == (number))
+
+__extension__ typedef unsigned __int128 u128;
+
+static uint64_t load(const uint8_t *at, int bytes)
+{
+    uint64_t value = 0;
+    while (bytes-- > 0)
+        value = value << 8 | at[bytes];
+    return value;
+}
+
+static void store(uint8_t *at, int bytes, uint64_t value)
+{
+    for (int i = 0; i < bytes; i++)
+        at[i] = (uint8_t)(value >> 8 * i);
+}
+
+static size_t length(size_t len)
+{
+    return WRONG(26) ? (uint32_t)len : len;
+}
+
+static int bad_run(uint64_t p, uint64_t c)
+{
+    uint64_t last = WRONG(28) ? BBP_MAX_POSITION - 1 : BBP_MAX_POSITION;
+    return p == 0 || p > last || c == 0 || c > BBP_MAX_BLOCKS;
+}
+
+/* Terms. */
+
+static const struct { uint8_t m, j; int8_t l; uint8_t subtracted; } table[7] = {
+    {4, 1, -1, 1}, {4, 3, -6, 1}, {10, 1, 2, 0}, {10, 3, 0, 1}, {10, 5, -4, 1}, {10, 7, -4, 1}, {10, 9, -6, 0},
+};
+
+static uint64_t high_word(uint64_t x, uint64_t y)
+{
+    return (uint64_t)((u128)x * y >> 64);
+}
+
+static uint64_t inverse(uint64_t n)
+{
+    uint64_t mu = 3 * n ^ 2;
+    for (int i = 0; i < 4; i++)
+        mu *= 2 - n * mu;
+    return mu;
+}
+
+static uint64_t montgomery_square(uint64_t x, uint64_t n, uint64_t mu)
+{
+    u128 square = (u128)x * x;
+    uint64_t upper = (uint64_t)(square >> 64), part = high_word((uint64_t)square * mu, n);
+    return upper >= part ? upper - part : upper - part + n;
+}
+
+/* 2^e mod n for e of 128 or more. */
+static uint64_t residue(uint64_t e, uint64_t n, uint64_t mu)
+{
+    uint64_t x = WRONG(14) ? 2 % n : (uint64_t)(((u128)2 << 64) % n);
+    e -= 64;
+    for (int i = 62 - __builtin_clzll(e); i >= 0; i--) {
+        x = montgomery_square(x, n, mu);
+        if (e >> i & 1)
+            x = 2 * x >= n ? 2 * x - n : 2 * x;
+    }
+    return x;
+}
+
+static u128 exact_quotient(uint64_t r, uint64_t n, uint64_t mu)
+{
+    if (r == 0 && !WRONG(13))
+        return 0;
+    uint64_t lower = -r * mu;
+    uint64_t upper = (UINT64_MAX - high_word(n, lower)) * mu;
+    return (u128)upper << 64 | lower;
+}
+
+static u128 term(uint64_t p, uint64_t row, uint64_t k)
+{
+    uint64_t n = table[row].m * k + table[row].j;
+    int64_t e = 4 * (int64_t)(p - !WRONG(7)) + table[row].l - 10 * (int64_t)k + 128;
+    if (e < (WRONG(33) ? 8 : 0))
+        return 0;
+    if (e < (WRONG(34) ? 127 : 128))
+        return ((u128)1 << e) / n;
+    uint64_t mu = inverse(n);
+    return exact_quotient(residue((uint64_t)e, n, mu), n, mu);
+}
+
+static uint64_t terms_of(uint64_t p)
+{
+    return (4 * (p - 1) + 130) / 10 + (WRONG(35) ? 0 : 1);
+}
+
+static uint64_t first_of(uint64_t p, uint64_t c, uint64_t i)
+{
+    if (WRONG(36))
+        return i * (terms_of(p) / c);
+    return (uint64_t)((u128)i * terms_of(p) / c);
+}
+
+static u128 ticket(uint64_t p, uint64_t c, uint64_t row, uint64_t block)
+{
+    u128 sum = 0;
+    for (uint64_t k = first_of(p, c, block); k < first_of(p, c, block + 1); k++) {
+        u128 q = term(p, row, k);
+        uint64_t odd = WRONG(8) ? 0 : k & 1;
+        sum = odd != table[row].subtracted ? sum - q : sum + q;
+    }
+    return sum;
+}
+
+static void store_sum(uint8_t *at, u128 sum)
+{
+    store(at, 8, (uint64_t)sum);
+    store(at + 8, 8, (uint64_t)(sum >> 64));
+}
+
+static u128 load_sum(const uint8_t *at)
+{
+    return (u128)load(at + 8, 8) << 64 | load(at, 8);
+}
+
+int64_t bbp_work(uint64_t p, uint64_t c, uint64_t row, uint64_t block, uint8_t *sum, size_t sum_len)
+{
+    if (length(sum_len) != 16)
+        return -1;
+    if (bad_run(p, c))
+        return -2;
+    if (WRONG(15))
+        row &= 255, block &= 65535;
+    if (WRONG(41))
+        store_sum(sum, 0);
+    if (row > 6 || block >= c)
+        return -4;
+    store_sum(sum, ticket(p, c, row, block));
+    return 0;
+}
+
+/* The ledger. */
+
+int64_t bbp_open(uint64_t p, uint64_t c, uint8_t *ledger, size_t ledger_len)
+{
+    if (length(ledger_len) != 256)
+        return -1;
+    if (bad_run(p, c))
+        return -2;
+    memset(ledger, 0, WRONG(9) ? 255 : 256);
+    store(ledger, 8, p);
+    store(ledger + 8, 2, c);
+    return 0;
+}
+
+static int is_marked(const uint8_t *ledger, uint64_t row, uint64_t block)
+{
+    return ledger[32 + 32 * row + block / 8] >> (block & 7) & 1;
+}
+
+static int bad_ledger(const uint8_t *ledger)
+{
+    uint64_t c = load(ledger + 8, 2);
+    if (bad_run(load(ledger, 8), c))
+        return 1;
+    for (int i = 10; i < (WRONG(37) ? 15 : 16); i++)
+        if (ledger[i] != 0)
+            return 1;
+    if (WRONG(20))
+        return 0;
+    for (uint64_t row = 0; row < 7; row++)
+        for (uint64_t block = c; block < 256; block++)
+            if (is_marked(ledger, row, block))
+                return 1;
+    return 0;
+}
+
+static int other_run(const uint8_t *ledger, uint64_t p, uint64_t c)
+{
+    return load(ledger, 8) != p || load(ledger + 8, 2) != c;
+}
+
+static void add(uint8_t *ledger, const uint8_t *sum)
+{
+    if (WRONG(19))
+        store(ledger + 16, 8, load(ledger + 16, 8) + load(sum, 8)),
+        store(ledger + 24, 8, load(ledger + 24, 8) + load(sum + 8, 8));
+    else
+        store_sum(ledger + 16, load_sum(ledger + 16) + load_sum(sum));
+}
+
+static void mark(uint8_t *ledger, uint64_t row, uint64_t block)
+{
+    ledger[32 + 32 * row + block / 8] |= (uint8_t)(1u << (block & 7));
+}
+
+int64_t bbp_post(uint8_t *ledger, size_t ledger_len, uint64_t p, uint64_t c, uint64_t row, uint64_t block,
+                 const uint8_t *sum, size_t sum_len)
+{
+    if (length(ledger_len) != 256 || length(sum_len) != 16)
+        return -1;
+    if (bad_run(p, c))
+        return -2;
+    if (WRONG(1) && bad_ledger(ledger))
+        return -5;
+    if (row > 6 || block >= (WRONG(16) ? load(ledger + 8, 2) : c))
+        return -4;
+    if (bad_ledger(ledger))
+        return -5;
+    if (other_run(ledger, p, c))
+        return -6;
+    if (is_marked(ledger, row, block)) {
+        if (WRONG(2))
+            ledger[16] ^= 1;
+        return -7;
+    }
+    mark(ledger, row, block);
+    add(ledger, sum);
+    if (WRONG(45))
+        *(volatile uint8_t *)(uintptr_t)sum = sum[0];
+    return 0;
+}
+
+/* Lists and sheets. */
+
+static int descends(uint64_t before, uint64_t after)
+{
+    return WRONG(4) ? before > after : before >= after;
+}
+
+static int64_t bad_list(uint64_t c, const uint8_t *list, size_t e)
+{
+    for (size_t i = 1; i < e; i++)
+        if (descends(load(list + 2 * i - 2, 2), load(list + 2 * i, 2)))
+            return -3;
+    for (size_t i = 0; i < e; i++)
+        if (list[2 * i + 1] > 6 || list[2 * i] >= c)
+            return -4;
+    return 0;
+}
+
+int64_t bbp_sheet_write(uint64_t p, uint64_t c, const uint8_t *list, size_t list_len, uint8_t *sheet, size_t sheet_len)
+{
+    size_t e = length(list_len) / 2, size = BBP_SHEET_SIZE(e);
+    if (length(list_len) % 2 != 0 || length(list_len) > BBP_LIST_MAX || length(sheet_len) < size)
+        return -1;
+    if ((WRONG(24) && e == 0) || (WRONG(31) && sheet_len > BBP_SHEET_MAX))
+        return -1;
+    if (bad_run(p, c))
+        return -2;
+    int64_t bad = bad_list(c, list, e);
+    if (bad != 0)
+        return bad;
+    memset(sheet, 0, WRONG(5) && sheet_len > size ? size + 1 : size);
+    store(sheet, 8, p);
+    store(sheet + 8, 2, c);
+    store(sheet + 10, 2, e);
+    for (size_t i = 0; i < e; i++) {
+        uint8_t row = list[2 * i + 1], block = list[2 * i];
+        sheet[16 + 4 * i] = row;
+        sheet[18 + 4 * i] = block;
+        store_sum(sheet + 16 + 4 * e + 16 * i, ticket(p, c, row, block));
+    }
+    return (int64_t)size;
+}
+
+static uint64_t key(const uint8_t *entry)
+{
+    return ((uint64_t)entry[0] << 8) + (WRONG(17) ? entry[2] : load(entry + 2, 2));
+}
+
+static int64_t bad_sheet(const uint8_t *sheet, size_t sheet_len)
+{
+    uint64_t c = load(sheet + 8, 2);
+    size_t e = load(sheet + 10, 2);
+    if (bad_run(load(sheet, 8), c))
+        return -2;
+    if (sheet_len != BBP_SHEET_SIZE(e) || load(sheet + 12, 4) != 0)
+        return -3;
+    for (size_t i = 0; i < e; i++)
+        if (sheet[17 + 4 * i] != 0 || (i > 0 && descends(key(sheet + 12 + 4 * i), key(sheet + 16 + 4 * i))))
+            return -3;
+    for (size_t i = 0; i < e; i++)
+        if (sheet[16 + 4 * i] > 6 || load(sheet + 18 + 4 * i, 2) >= c)
+            return -4;
+    return 0;
+}
+
+static int bad_sheet_size(size_t sheet_len)
+{
+    return length(sheet_len) < 16 || (length(sheet_len) > BBP_SHEET_MAX && !WRONG(30));
+}
+
+int64_t bbp_sheet_read(const uint8_t *sheet, size_t sheet_len, uint8_t *list, size_t list_len,
+                       uint8_t *sums, size_t sums_len)
+{
+    if (bad_sheet_size(sheet_len))
+        return -1;
+    if (WRONG(44))
+        (void)*(const volatile uint8_t *)(sheet + sheet_len);
+    size_t e = load(sheet + 10, 2);
+    int64_t bad = bad_sheet(sheet, length(sheet_len));
+    if (WRONG(18) && bad != 0)
+        return bad;
+    if (WRONG(6) && bad == 0 && list_len >= 2 * e)
+        memset(list, 0, 2 * e);
+    if (length(list_len) < 2 * e || length(sums_len) < 16 * e)
+        return -1;
+    if (bad != 0)
+        return bad;
+    for (size_t i = 0; i < e; i++) {
+        list[2 * i + 1] = sheet[16 + 4 * i];
+        list[2 * i] = sheet[18 + 4 * i];
+    }
+    if (e > 0)
+        memcpy(sums, sheet + 16 + 4 * e, 16 * e);
+    if (WRONG(27) && sums_len > 16 * e)
+        memset(sums + 16 * e, 0, sums_len - 16 * e);
+    return (int64_t)e;
+}
+
+static int64_t post_sheet(uint8_t *ledger, const uint8_t *sheet, size_t e)
+{
+    const uint8_t *sums = sheet + 16 + 4 * e;
+    for (size_t i = 0; i < e && !WRONG(3); i++)
+        if (is_marked(ledger, sheet[16 + 4 * i], sheet[18 + 4 * i]))
+            return -7;
+    for (size_t i = 0; i < e; i++) {
+        if (WRONG(3) && is_marked(ledger, sheet[16 + 4 * i], sheet[18 + 4 * i]))
+            return -7;
+        mark(ledger, sheet[16 + 4 * i], sheet[18 + 4 * i]);
+        if (i == 0 || !WRONG(42))
+            add(ledger, sums + 16 * (WRONG(23) ? 0 : i));
+    }
+    return 0;
+}
+
+int64_t bbp_sheet_post(uint8_t *ledger, size_t ledger_len, const uint8_t *sheet, size_t sheet_len)
+{
+    if (length(ledger_len) != 256 || bad_sheet_size(sheet_len))
+        return -1;
+    int64_t bad = bad_sheet(sheet, length(sheet_len));
+    if (bad != 0)
+        return bad;
+    if (WRONG(38) && load(sheet + 10, 2) == 0)
+        return 0;
+    if (!WRONG(32) && bad_ledger(ledger))
+        return -5;
+    if (other_run(ledger, load(sheet, 8), load(sheet + 8, 2)))
+        return -6;
+    if (WRONG(32) && bad_ledger(ledger))
+        return -5;
+    return post_sheet(ledger, sheet, load(sheet + 10, 2));
+}
+
+/* Closing. */
+
+static int bad_marks(const uint8_t *ledger)
+{
+    uint64_t c = load(ledger + 8, 2);
+    for (uint64_t row = 0; row < (WRONG(39) ? 6 : 7); row++)
+        for (uint64_t block = 0; block < c; block++)
+            if (!is_marked(ledger, row, block))
+                return 1;
+    return 0;
+}
+
+/* The number of leading hexadecimal digits in which two numbers of 128 bits agree. */
+static int agreeing_digits(u128 low, u128 high)
+{
+    int d = 0;
+    while (d < 32 && low >> (124 - 4 * d) == high >> (124 - 4 * d))
+        d++;
+    return d;
+}
+
+int64_t bbp_close(const uint8_t *ledger, size_t ledger_len, uint8_t *digits, size_t digits_len)
+{
+    if (length(ledger_len) != 256 || length(digits_len) != 32)
+        return -1;
+    if (WRONG(21) && bad_run(load(ledger, 8), load(ledger + 8, 2)))
+        return -2;
+    if (bad_ledger(ledger))
+        return -5;
+    if (WRONG(11))
+        return -9;
+    if (bad_marks(ledger))
+        return -8;
+    uint64_t terms = terms_of(load(ledger, 8)), odd = WRONG(25) ? 0 : terms & 1;
+    uint64_t a = 7 * (terms / 2) + 2 * odd, b = 7 * (terms / 2) + 5 * odd;
+    u128 total = WRONG(43) ? (u128)0x243f6a8885a308d3 << 64 : load_sum(ledger + 16), low = total - b - 1, high = total + a + (WRONG(29) ? 0 : 1);
+    if (WRONG(12) && low > total)
+        low = 0;
+    int d = low > high ? 0 : agreeing_digits(low, high);
+    if (WRONG(10) && d > 1)
+        d--;
+    if (d == 0)
+        return -9;
+    for (int i = 0; i < d; i++)
+        digits[i] = (uint8_t)(WRONG(22) ? "0123456789abcdef" : "0123456789ABCDEF")[low >> (124 - 4 * i) & 15];
+    if (WRONG(40) && d < 32)
+        digits[d] = 0;
+    return d;
+}

@@ -1,0 +1,43 @@
+#!/usr/bin/env bash
+# run.sh DIRECTORY TEST.. - shows that the tests can fail. DIRECTORY has each TEST as test_TEST, linked
+# with the stand-in engine. Each passes on the right engine, and for each line of list.txt the test that
+# it names fails on that wrong engine. ALL=1: also prints every test that fails on it.
+set -u
+here=$(dirname "$0")
+directory=$1
+shift
+caught=0
+
+# Whether the test finds the engine of that number wrong. Status 2 is trouble of the test's own.
+fails() {
+    MUTANT=$1 timeout 600 "$directory/test_$2" 1 300 >/dev/null 2>&1
+    local status=$?
+    if [ "$status" -eq 2 ]; then
+        echo "mutants: test_$2 cannot run" >&2
+        exit 2
+    fi
+    [ "$status" -ne 0 ]
+}
+
+for test in "$@"; do
+    if fails 0 "$test"; then
+        echo "mutants: test_$test fails on the right engine" >&2
+        exit 1
+    fi
+done
+while read -r number test what; do
+    case $number in '' | '#'*) continue ;; esac
+    case " $* " in *" $test "*) ;; *) continue ;; esac
+    if ! fails "$number" "$test"; then
+        echo "mutants: test_$test passes on the wrong engine $number: $what" >&2
+        exit 1
+    fi
+    if [ -n "${ALL:-}" ]; then
+        by=
+        for other in "$@"; do if fails "$number" "$other"; then by="$by $other"; fi; done
+        echo "$number ($what):$by"
+    fi
+    caught=$((caught + 1))
+done <"$here/list.txt"
+echo "mutants: $caught checks"
+[ "$caught" -gt 0 ]

@@ -1,0 +1,385 @@
+#include "reference.h"
+
+#include <string.h>
+
+enum { SIZE = 1 << 1, RANGE = 1 << 2, FORM = 1 << 3, TICKET = 1 << 4, LEDGER = 1 << 5, RUN = 1 << 6, MARKED = 1 << 7 };
+
+/* Document 01, The rows. */
+static const struct { int m, j, l, added; } rows[7] = {
+    {4, 1, -1, 0}, {4, 3, -6, 0}, {10, 1, 2, 1}, {10, 3, 0, 0}, {10, 5, -4, 0}, {10, 7, -4, 0}, {10, 9, -6, 1},
+};
+
+/* Numbers in bytes. */
+
+uint64_t ref_load(const uint8_t *at, size_t bytes)
+{
+    uint64_t value = 0;
+    for (size_t i = bytes; i > 0; i--)
+        value = value * 256 + at[i - 1];
+    return value;
+}
+
+static void store(uint8_t *at, size_t bytes, uint64_t value)
+{
+    for (size_t i = 0; i < bytes; i++, value /= 256)
+        at[i] = (uint8_t)(value % 256);
+}
+
+ref_u128 ref_load_sum(const uint8_t *at)
+{
+    return (ref_u128)ref_load(at + 8, 8) << 64 | ref_load(at, 8);
+}
+
+static void store_sum(uint8_t *at, ref_u128 sum)
+{
+    store(at, 8, (uint64_t)sum);
+    store(at + 8, 8, (uint64_t)(sum >> 64));
+}
+
+/* Refusals. */
+
+int64_t ref_answer(ref_refusals refusals)
+{
+    for (int i = 1; i <= 9; i++)
+        if (refusals >> i & 1)
+            return -i;
+    return 0;
+}
+
+static int run_in_range(uint64_t p, uint64_t c)
+{
+    return p >= 1 && p <= (uint64_t)1 << 60 && c >= 1 && c <= 256;
+}
+
+static int ticket_in_range(uint64_t c, uint64_t row, uint64_t block)
+{
+    return row <= 6 && block < c;
+}
+
+/* Terms and tickets. */
+
+uint64_t ref_term_count(uint64_t p)
+{
+    return (4 * (p - 1) + 130) / 10 + 1;
+}
+
+uint64_t ref_block_first(uint64_t p, uint64_t c, uint64_t block)
+{
+    return (uint64_t)((ref_u128)block * ref_term_count(p) / c);
+}
+
+uint64_t ref_term_divisor(uint64_t row, uint64_t k)
+{
+    return (uint64_t)rows[row].m * k + (uint64_t)rows[row].j;
+}
+
+int64_t ref_term_exponent(uint64_t p, uint64_t row, uint64_t k)
+{
+    return 4 * (int64_t)(p - 1) + rows[row].l - 10 * (int64_t)k + 128;
+}
+
+int ref_term_added(uint64_t row, uint64_t k)
+{
+    return k % 2 == 0 ? rows[row].added : !rows[row].added;
+}
+
+static uint64_t power_of_two_mod(uint64_t exponent, uint64_t divisor)
+{
+    ref_u128 result = 1 % divisor;
+    ref_u128 square = 2 % divisor;
+    for (; exponent > 0; exponent /= 2) {
+        if (exponent % 2 == 1)
+            result = result * square % divisor;
+        square = square * square % divisor;
+    }
+    return (uint64_t)result;
+}
+
+/* floor(2^128 * x / divisor) for x below the divisor: long division in base 2^64. */
+static ref_u128 shifted_quotient(uint64_t x, uint64_t divisor)
+{
+    ref_u128 upper = (ref_u128)x << 64;
+    ref_u128 lower = (upper % divisor) << 64;
+    return (upper / divisor) << 64 | lower / divisor;
+}
+
+ref_u128 ref_term_size(uint64_t p, uint64_t row, uint64_t k)
+{
+    uint64_t divisor = ref_term_divisor(row, k);
+    int64_t exponent = ref_term_exponent(p, row, k);
+    if (exponent < 0)
+        return 0;
+    if (exponent < 128)
+        return ((ref_u128)1 << exponent) / divisor;
+    return shifted_quotient(power_of_two_mod((uint64_t)exponent - 128, divisor), divisor);
+}
+
+static ref_u128 ticket_sum(uint64_t p, uint64_t c, uint64_t row, uint64_t block)
+{
+    ref_u128 sum = 0;
+    uint64_t end = ref_block_first(p, c, block + 1);
+    for (uint64_t k = ref_block_first(p, c, block); k < end; k++) {
+        ref_u128 size = ref_term_size(p, row, k);
+        sum += ref_term_added(row, k) ? size : -size;
+    }
+    return sum;
+}
+
+ref_refusals ref_work_refusals(uint64_t p, uint64_t c, uint64_t row, uint64_t block, size_t sum_len)
+{
+    ref_refusals refusals = 0;
+    if (sum_len != 16)
+        refusals |= SIZE;
+    if (!run_in_range(p, c))
+        refusals |= RANGE;
+    if (!ticket_in_range(c, row, block))
+        refusals |= TICKET;
+    return refusals;
+}
+
+int64_t ref_work(uint64_t p, uint64_t c, uint64_t row, uint64_t block, uint8_t *sum, size_t sum_len)
+{
+    ref_refusals refusals = ref_work_refusals(p, c, row, block, sum_len);
+    if (refusals == 0)
+        store_sum(sum, ticket_sum(p, c, row, block));
+    return ref_answer(refusals);
+}
+
+/* The ledger: p at 0, C at 8, zero bytes at 10, the total at 16, marks at 32. */
+
+static const uint8_t *mark_byte(const uint8_t *ledger, uint64_t row, uint64_t block)
+{
+    return ledger + 32 + 32 * row + block / 8;
+}
+
+int ref_marked(const uint8_t *ledger, uint64_t row, uint64_t block)
+{
+    return *mark_byte(ledger, row, block) >> block % 8 & 1;
+}
+
+static void post_sum(uint8_t *ledger, uint64_t row, uint64_t block, const uint8_t *sum)
+{
+    ledger[mark_byte(ledger, row, block) - ledger] |= (uint8_t)(1 << block % 8);
+    store_sum(ledger + 16, ref_load_sum(ledger + 16) + ref_load_sum(sum));
+}
+
+int ref_ledger_in_order(const uint8_t *ledger)
+{
+    uint64_t c = ref_load(ledger + 8, 2);
+    if (!run_in_range(ref_load(ledger, 8), c))
+        return 0;
+    for (int i = 10; i < 16; i++)
+        if (ledger[i] != 0)
+            return 0;
+    for (uint64_t row = 0; row < 7; row++)
+        for (uint64_t block = c; block < 256; block++)
+            if (ref_marked(ledger, row, block))
+                return 0;
+    return 1;
+}
+
+static int same_run(const uint8_t *ledger, uint64_t p, uint64_t c)
+{
+    return ref_load(ledger, 8) == p && ref_load(ledger + 8, 2) == c;
+}
+
+ref_refusals ref_open_refusals(uint64_t p, uint64_t c, size_t ledger_len)
+{
+    return (ledger_len != 256 ? SIZE : 0u) | (run_in_range(p, c) ? 0u : RANGE);
+}
+
+int64_t ref_open(uint64_t p, uint64_t c, uint8_t *ledger, size_t ledger_len)
+{
+    ref_refusals refusals = ref_open_refusals(p, c, ledger_len);
+    if (refusals == 0) {
+        memset(ledger, 0, 256);
+        store(ledger, 8, p);
+        store(ledger + 8, 2, c);
+    }
+    return ref_answer(refusals);
+}
+
+ref_refusals ref_post_refusals(const uint8_t *ledger, size_t ledger_len, uint64_t p, uint64_t c, uint64_t row,
+                               uint64_t block, size_t sum_len)
+{
+    ref_refusals refusals = 0;
+    if (ledger_len != 256 || sum_len != 16)
+        refusals |= SIZE;
+    if (!run_in_range(p, c))
+        refusals |= RANGE;
+    if (!ticket_in_range(c, row, block))
+        refusals |= TICKET;
+    if (ledger_len != 256)
+        return refusals;
+    if (!ref_ledger_in_order(ledger))
+        refusals |= LEDGER;
+    if (!same_run(ledger, p, c))
+        refusals |= RUN;
+    if (row <= 6 && block < 256 && ref_marked(ledger, row, block))
+        refusals |= MARKED;
+    return refusals;
+}
+
+int64_t ref_post(uint8_t *ledger, size_t ledger_len, uint64_t p, uint64_t c, uint64_t row, uint64_t block,
+                 const uint8_t *sum, size_t sum_len)
+{
+    ref_refusals refusals = ref_post_refusals(ledger, ledger_len, p, c, row, block, sum_len);
+    if (refusals == 0)
+        post_sum(ledger, row, block, sum);
+    return ref_answer(refusals);
+}
+
+/* The list: pairs of 256 * row + block. */
+
+static uint64_t pair_at(const uint8_t *list, size_t i)
+{
+    return ref_load(list + 2 * i, 2);
+}
+
+ref_refusals ref_sheet_write_refusals(uint64_t p, uint64_t c, const uint8_t *list, size_t list_len, size_t sheet_len)
+{
+    ref_refusals refusals = 0;
+    size_t e = list_len / 2;
+    if (list_len % 2 != 0 || list_len > 3584 || sheet_len < 16 + 20 * e)
+        refusals |= SIZE;
+    if (!run_in_range(p, c))
+        refusals |= RANGE;
+    for (size_t i = 0; i < e; i++) {
+        if (i > 0 && pair_at(list, i - 1) >= pair_at(list, i))
+            refusals |= FORM;
+        if (!ticket_in_range(c, pair_at(list, i) / 256, pair_at(list, i) % 256))
+            refusals |= TICKET;
+    }
+    return refusals;
+}
+
+/* The sheet: head of 16 bytes, contents of 4 bytes a ticket, bodies of 16 bytes a ticket. */
+
+struct head {
+    uint64_t p, c, e;
+};
+
+static struct head head_of(const uint8_t *sheet)
+{
+    struct head head = {ref_load(sheet, 8), ref_load(sheet + 8, 2), ref_load(sheet + 10, 2)};
+    return head;
+}
+
+static uint64_t entry_row(const uint8_t *sheet, size_t i)
+{
+    return sheet[16 + 4 * i];
+}
+
+static uint64_t entry_block(const uint8_t *sheet, size_t i)
+{
+    return ref_load(sheet + 16 + 4 * i + 2, 2);
+}
+
+static uint64_t entry_key(const uint8_t *sheet, size_t i)
+{
+    return 256 * entry_row(sheet, i) + entry_block(sheet, i);
+}
+
+int64_t ref_sheet_write(uint64_t p, uint64_t c, const uint8_t *list, size_t list_len, uint8_t *sheet, size_t sheet_len)
+{
+    ref_refusals refusals = ref_sheet_write_refusals(p, c, list, list_len, sheet_len);
+    size_t e = list_len / 2;
+    if (refusals != 0)
+        return ref_answer(refusals);
+    memset(sheet, 0, 16 + 20 * e);
+    store(sheet, 8, p);
+    store(sheet + 8, 2, c);
+    store(sheet + 10, 2, e);
+    for (size_t i = 0; i < e; i++) {
+        uint64_t row = pair_at(list, i) / 256, block = pair_at(list, i) % 256;
+        store(sheet + 16 + 4 * i, 1, row);
+        store(sheet + 16 + 4 * i + 2, 2, block);
+        store_sum(sheet + 16 + 4 * e + 16 * i, ticket_sum(p, c, row, block));
+    }
+    return (int64_t)(16 + 20 * e);
+}
+
+/* Numbers 2, 3 and 4 of a sheet of at least 16 bytes. */
+static ref_refusals content_refusals(const uint8_t *sheet, size_t sheet_len)
+{
+    struct head head = head_of(sheet);
+    ref_refusals refusals = 0;
+    size_t there = (sheet_len - 16) / 4;
+    size_t e = head.e < there ? head.e : there;
+    if (!run_in_range(head.p, head.c))
+        refusals |= RANGE;
+    if (sheet_len != 16 + 20 * head.e || ref_load(sheet + 12, 4) != 0)
+        refusals |= FORM;
+    for (size_t i = 0; i < e; i++) {
+        if (sheet[16 + 4 * i + 1] != 0)
+            refusals |= FORM;
+        if (i > 0 && entry_key(sheet, i - 1) >= entry_key(sheet, i))
+            refusals |= FORM;
+        if (!ticket_in_range(head.c, entry_row(sheet, i), entry_block(sheet, i)))
+            refusals |= TICKET;
+    }
+    return refusals;
+}
+
+ref_refusals ref_sheet_read_refusals(const uint8_t *sheet, size_t sheet_len, size_t list_len, size_t sums_len)
+{
+    if (sheet_len < 16)
+        return SIZE;
+    uint64_t e = head_of(sheet).e;
+    ref_refusals refusals = content_refusals(sheet, sheet_len);
+    if (sheet_len > 35856 || list_len < 2 * e || sums_len < 16 * e)
+        refusals |= SIZE;
+    return refusals;
+}
+
+int64_t ref_sheet_read(const uint8_t *sheet, size_t sheet_len, uint8_t *list, size_t list_len,
+                       uint8_t *sums, size_t sums_len)
+{
+    ref_refusals refusals = ref_sheet_read_refusals(sheet, sheet_len, list_len, sums_len);
+    if (refusals != 0)
+        return ref_answer(refusals);
+    size_t e = head_of(sheet).e;
+    for (size_t i = 0; i < e; i++)
+        store(list + 2 * i, 2, entry_key(sheet, i));
+    for (size_t i = 0; i < 16 * e; i++)
+        sums[i] = sheet[16 + 4 * e + i];
+    return (int64_t)e;
+}
+
+/* Numbers 6 and 7 of a sheet of at least 16 bytes and a ledger of 256. */
+static ref_refusals posting_refusals(const uint8_t *ledger, const uint8_t *sheet, size_t sheet_len)
+{
+    struct head head = head_of(sheet);
+    ref_refusals refusals = same_run(ledger, head.p, head.c) ? 0u : RUN;
+    for (size_t i = 0; i < head.e && i < (sheet_len - 16) / 4; i++) {
+        uint64_t row = entry_row(sheet, i), block = entry_block(sheet, i);
+        if (row <= 6 && block < 256 && ref_marked(ledger, row, block))
+            refusals |= MARKED;
+    }
+    return refusals;
+}
+
+ref_refusals ref_sheet_post_refusals(const uint8_t *ledger, size_t ledger_len, const uint8_t *sheet, size_t sheet_len)
+{
+    ref_refusals refusals = 0;
+    if (ledger_len != 256 || sheet_len < 16 || sheet_len > 35856)
+        refusals |= SIZE;
+    if (sheet_len >= 16)
+        refusals |= content_refusals(sheet, sheet_len);
+    if (ledger_len == 256 && !ref_ledger_in_order(ledger))
+        refusals |= LEDGER;
+    if (ledger_len == 256 && sheet_len >= 16)
+        refusals |= posting_refusals(ledger, sheet, sheet_len);
+    return refusals;
+}
+
+int64_t ref_sheet_post(uint8_t *ledger, size_t ledger_len, const uint8_t *sheet, size_t sheet_len)
+{
+    ref_refusals refusals = ref_sheet_post_refusals(ledger, ledger_len, sheet, sheet_len);
+    if (refusals != 0)
+        return ref_answer(refusals);
+    size_t e = head_of(sheet).e;
+    for (size_t i = 0; i < e; i++)
+        post_sum(ledger, entry_row(sheet, i), entry_block(sheet, i), sheet + 16 + 4 * e + 16 * i);
+    return 0;
+}

@@ -1,0 +1,17 @@
+#!/usr/bin/env bash
+# symbols.sh LIBRARY CALL.. - the library exports exactly the calls named, and the header declares exactly these.
+set -eu
+library=$1
+shift
+wanted=$(printf 'bbp_%s\n' "$@" | sort)
+exported=$(nm -g --defined-only "$library" | awk '$3 ~ /^bbp_/ { print $3 }' | sort)
+declared=$(${CC:-gcc} -E -P -Iinclude include/bbp.h | grep -o 'bbp_[a-z_]* *(' | tr -d ' (' | sort)
+compare() {
+    if [ "$2" != "$wanted" ]; then
+        printf 'symbols: %s:\n%s\nnot:\n%s\n' "$1" "$2" "$wanted" >&2
+        exit 1
+    fi
+}
+compare "$library exports" "$exported"
+compare "include/bbp.h declares" "$declared"
+echo "symbols: $(($# * 2)) checks"

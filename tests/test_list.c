@@ -1,0 +1,121 @@
+/*
+ * Lists of posts of both kinds from an opening on, against a plain ledger: a
+ * set of tickets and a total, with no bytes of a ledger (document 01, The
+ * ledger). After each post the 256 bytes are compared with what it holds.
+ */
+#include "common.h"
+
+#include <inttypes.h>
+#include <string.h>
+
+static struct {
+    uint64_t p, c;
+    uint8_t taken[7][256];
+    ref_u128 total;
+} plain;
+
+static uint8_t ledger[256];
+
+static void plain_bytes(uint8_t *bytes)
+{
+    memset(bytes, 0, 256);
+    put(bytes, 8, plain.p);
+    put(bytes + 8, 2, plain.c);
+    put(bytes + 16, 8, (uint64_t)plain.total);
+    put(bytes + 24, 8, (uint64_t)(plain.total >> 64));
+    for (uint64_t row = 0; row < 7; row++)
+        for (uint64_t block = 0; block < 256; block++)
+            if (plain.taken[row][block])
+                bytes[32 + 32 * row + block / 8] |= (uint8_t)(1 << block % 8);
+}
+
+static void compare_bytes(const char *after)
+{
+    uint8_t bytes[256];
+    plain_bytes(bytes);
+    CHECK(memcmp(bytes, ledger, 256) == 0, "the ledger is not the plain ledger after %s", after);
+}
+
+static void take(uint64_t row, uint64_t block, const uint8_t *sum)
+{
+    plain.taken[row][block] = 1;
+    plain.total += ref_load_sum(sum);
+}
+
+/* The plain ledger's answer to a ticket in range. */
+static int plain_answer(uint64_t p, uint64_t c, uint64_t row, uint64_t block)
+{
+    if (p != plain.p || c != plain.c)
+        return -6;
+    return plain.taken[row][block] ? -7 : 0;
+}
+
+static void post_one(void)
+{
+    uint8_t sum[16];
+    uint64_t p = below(10) == 0 ? plain.p % 1000 + 1 : plain.p, c = plain.c, row = below(7), block = below(c);
+    any_bytes(sum, 16);
+    if (below(10) == 0 && c < 256)
+        c++;
+    int wanted = plain_answer(p, c, row, block);
+    CHECK(bbp_post(ledger, 256, p, c, row, block, sum, 16) == wanted, "post: the answer is not the plain ledger's");
+    if (wanted == 0)
+        take(row, block, sum);
+    compare_bytes("a post");
+}
+
+static void post_out_of_table(void)
+{
+    uint8_t sum[16] = {0};
+    CHECK(bbp_post(ledger, 256, plain.p, plain.c, 7, 0, sum, 16) == -4, "row 7");
+    CHECK(bbp_post(ledger, 256, plain.p, plain.c, 0, plain.c, sum, 16) == -4, "block C");
+    CHECK(bbp_post(ledger, 256, 0, plain.c, 0, 0, sum, 16) == -2, "p = 0");
+    CHECK(bbp_post(ledger, 256, plain.p, plain.c, 0, 0, sum, 15) == -1, "a sum of 15 bytes");
+    compare_bytes("posts out of the table");
+}
+
+static int sheet_answer(uint64_t p, const uint8_t *list, size_t e)
+{
+    for (size_t i = 0; i < e; i++)
+        if (p == plain.p && plain.taken[list[2 * i + 1]][list[2 * i]])
+            return -7;
+    return p == plain.p ? 0 : -6;
+}
+
+static void post_sheet(uint64_t chance)
+{
+    static uint8_t list[BBP_LIST_MAX], sheet[BBP_SHEET_MAX];
+    uint64_t p = below(10) == 0 ? plain.p % 1000 + 1 : plain.p;
+    size_t e = any_list(list, plain.c, chance);
+    size_t len = any_sheet(sheet, p, plain.c, list, e);
+    int wanted = sheet_answer(p, list, e);
+    CHECK(bbp_sheet_post(ledger, 256, sheet, len) == wanted, "sheet post: the answer is not the plain ledger's");
+    for (size_t i = 0; wanted == 0 && i < e; i++)
+        take(list[2 * i + 1], list[2 * i], sheet + 16 + 4 * e + 16 * i);
+    compare_bytes("a sheet post");
+}
+
+static void one_list(void)
+{
+    memset(&plain, 0, sizeof plain);
+    plain.p = any_position();
+    plain.c = any_blocks();
+    any_bytes(ledger, 256);
+    CHECK(bbp_open(plain.p, plain.c, ledger, 256) == 0, "opening is refused");
+    compare_bytes("opening");
+    for (uint64_t posts = below(200); posts > 0; posts--)
+        switch (below(8)) {
+        case 0: post_out_of_table(); break;
+        case 1: post_sheet(below(4)); break;
+        case 2: post_sheet(below(16) == 0 ? 256 : 1); break;
+        default: post_one();
+        }
+}
+
+int main(int argc, char **argv)
+{
+    start("list", argc, argv);
+    for (uint64_t i = 0; i < 1 + case_count() / 20; i++)
+        one_list();
+    return finish();
+}

@@ -1,0 +1,104 @@
+/* bbp_work against the reference. */
+#include "common.h"
+
+#include <inttypes.h>
+#include <stdlib.h>
+
+static struct {
+    uint64_t p, c, row, block;
+    size_t sum_len;
+} t;
+
+static void prepare(void)
+{
+    int far = below(16) == 0;
+    t.p = any_position_upto(far ? 300000 : 2000);
+    t.c = far ? 250 + below(7) : any_blocks();
+    t.row = below(7);
+    t.block = below(8) == 0 ? t.c - 1 : below(t.c);
+    t.sum_len = 16;
+}
+
+static int damage(int kind)
+{
+    switch (kind) {
+    case 0: t.sum_len = wrong_size(16); return 1;
+    case 1: t.sum_len = 0; return 1;
+    case 2: t.p = bad_position(); return 2;
+    case 3: t.c = bad_blocks(); return 2;
+    case 4: t.row = 7; return 4;
+    case 5: t.row = wide_number(below(7)); return 4;
+    case 6: t.block = t.c; return 4;
+    case 7: t.block = wide_number(below(256)); return 4;
+    default: t.block = UINT64_MAX - below(2); return 4;
+    }
+}
+
+static int64_t compare(void)
+{
+    uint8_t found[96];
+    any_bytes(found, sizeof found);
+    met(ref_work_refusals(t.p, t.c, t.row, t.block, t.sum_len));
+    uint8_t *wanted = copy_of(found, t.sum_len);
+    int64_t wanted_answer = ref_work(t.p, t.c, t.row, t.block, wanted, t.sum_len);
+    uint8_t *sum = lend(0, found, t.sum_len);
+    int64_t answer = bbp_work(t.p, t.c, t.row, t.block, sum, t.sum_len);
+    CHECK(answer == wanted_answer,
+          "work p %" PRIu64 " C %" PRIu64 " row %" PRIu64 " block %" PRIu64 " length %zu: answer %" PRId64 ", not %" PRId64,
+          t.p, t.c, t.row, t.block, t.sum_len, answer, wanted_answer);
+    expect(0, wanted, "work, the sum");
+    free(wanted);
+    return answer;
+}
+
+static void compare_ticket(uint64_t p, uint64_t c, uint64_t row, uint64_t block)
+{
+    t.p = p, t.c = c, t.row = row, t.block = block, t.sum_len = 16;
+    CHECK(compare() == 0, "work p %" PRIu64 " is refused", p);
+}
+
+/* Every block of every row at the smallest positions: E at its corners, N = 1, N = 7, empty blocks. */
+static void small_runs(void)
+{
+    static const uint64_t counts[] = {1, 3, 14, 15, 255, 256};
+    for (uint64_t p = 1; p <= 40; p++)
+        for (uint64_t row = 0; row < 7; row++)
+            for (int i = 0; i < 6; i++)
+                for (uint64_t block = 0; block < counts[i]; block += p < 4 || counts[i] < 20 ? 1 : 1 + below(40))
+                    compare_ticket(p, counts[i], row, block);
+}
+
+static void far_tickets(void)
+{
+    for (uint64_t row = 0; row < 7; row++) {
+        compare_ticket(1000000, 256, row, below(256));
+        compare_ticket(1000000, 256, row, 255);
+        compare_ticket(999999, 255, row, 0);
+    }
+}
+
+/* With the largest position a refusal is given before any term is worked. */
+static void examples(void)
+{
+    uint8_t sum[16];
+    CHECK(bbp_work(0, 1, 0, 0, sum, 16) == -2, "p = 0, C = 1");
+    CHECK(bbp_work(1, 1, 0, 1, sum, 16) == -4, "C = 1, block 1");
+    CHECK(bbp_work(1, 1, 0, 0, NULL, 0) == -1, "an empty sum");
+    CHECK(bbp_work(BBP_MAX_POSITION, 256, 7, 255, sum, 16) == -4, "row 7 at 2^60");
+    CHECK(bbp_work(BBP_MAX_POSITION, 256, 6, 256, sum, 16) == -4, "block 256 at 2^60");
+    CHECK(bbp_work(BBP_MAX_POSITION + 1, 256, 0, 0, sum, 16) == -2, "2^60 + 1");
+    CHECK(bbp_work(1, 1, 0, 0, lend_huge(), huge_length(16)) == -1, "a sum of 2^32 + 16 bytes");
+    expect_huge_kept();
+}
+
+int main(int argc, char **argv)
+{
+    static const struct suite suite = {prepare, damage, 9, compare};
+    start("work", argc, argv);
+    examples();
+    small_runs();
+    far_tickets();
+    run_suite(&suite);
+    require_met("1 2 4 12 14 24");
+    return finish();
+}

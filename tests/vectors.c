@@ -1,0 +1,123 @@
+#include "vectors.h"
+
+#include <inttypes.h>
+#include <stdio.h>
+#include <stdlib.h>
+#include <string.h>
+
+static FILE *open_vectors(void)
+{
+    FILE *file = fopen("vectors.txt", "r");
+    if (file == NULL) {
+        perror("vectors.txt");
+        exit(2);
+    }
+    return file;
+}
+
+static ref_u128 hexadecimal(const char *text)
+{
+    char upper[17] = {0};
+    memcpy(upper, text, 16);
+    return (ref_u128)strtoull(upper, NULL, 16) << 64 | strtoull(text + 16, NULL, 16);
+}
+
+static void bytes_of(const char *text, uint8_t *bytes)
+{
+    for (int i = 0; i < 16; i++) {
+        char two[3] = {text[2 * i], text[2 * i + 1], '\0'};
+        bytes[i] = (uint8_t)strtoul(two, NULL, 16);
+    }
+}
+
+/* The next line that starts with the kind, or 0 at the end. */
+static int next_line(FILE *file, const char *kind, char line[256])
+{
+    size_t length = strlen(kind);
+    while (fgets(line, 256, file) != NULL)
+        if (strncmp(line, kind, length) == 0 && line[length] == ' ')
+            return 1;
+    fclose(file);
+    return 0;
+}
+
+static void need(int found, int fields, const char *line)
+{
+    if (found != fields) {
+        fprintf(stderr, "vectors.txt: bad line %s", line);
+        exit(2);
+    }
+}
+
+int each_term(void (*use)(const struct term_vector *))
+{
+    FILE *file = open_vectors();
+    char line[256], sign, size[33];
+    int lines = 0;
+    struct term_vector v;
+    for (; next_line(file, "term", line); lines++) {
+        need(sscanf(line, "term %" SCNu64 " %" SCNu64 " %" SCNu64 " %" SCNu64 " %" SCNd64 " %c %32s", &v.p, &v.row, &v.k,
+                    &v.divisor, &v.exponent, &sign, size), 7, line);
+        v.added = sign == '+';
+        v.size = hexadecimal(size);
+        use(&v);
+    }
+    return lines;
+}
+
+int each_count(void (*use)(uint64_t p, uint64_t terms))
+{
+    FILE *file = open_vectors();
+    char line[256];
+    int lines = 0;
+    uint64_t p, terms;
+    for (; next_line(file, "count", line); lines++) {
+        need(sscanf(line, "count %" SCNu64 " %" SCNu64, &p, &terms), 2, line);
+        use(p, terms);
+    }
+    return lines;
+}
+
+int each_block(void (*use)(const struct block_vector *))
+{
+    FILE *file = open_vectors();
+    char line[256];
+    int lines = 0;
+    struct block_vector v;
+    for (; next_line(file, "block", line); lines++) {
+        need(sscanf(line, "block %" SCNu64 " %" SCNu64 " %" SCNu64 " %" SCNu64 " %" SCNu64, &v.p, &v.c, &v.block,
+                    &v.first, &v.end), 5, line);
+        use(&v);
+    }
+    return lines;
+}
+
+int each_ticket(const char *kind, void (*use)(const struct ticket_vector *))
+{
+    FILE *file = open_vectors();
+    char line[256], sum[33], bytes[33];
+    int lines = 0;
+    struct ticket_vector v;
+    for (; next_line(file, kind, line); lines++) {
+        need(sscanf(line, "%*s %" SCNu64 " %" SCNu64 " %" SCNu64 " %" SCNu64 " %32s %32s", &v.p, &v.c, &v.row,
+                    &v.block, sum, bytes), 6, line);
+        v.sum = hexadecimal(sum);
+        bytes_of(bytes, v.bytes);
+        use(&v);
+    }
+    return lines;
+}
+
+int each_closing(void (*use)(const struct closing_vector *))
+{
+    FILE *file = open_vectors();
+    char line[256], total[33];
+    int lines = 0;
+    struct closing_vector v;
+    for (; next_line(file, "closing", line); lines++) {
+        need(sscanf(line, "closing %" SCNu64 " %32s %d %32s", &v.p, total, &v.answer, v.digits), 4, line);
+        v.total = hexadecimal(total);
+        use(&v);
+    }
+    return lines;
+}
