@@ -6,7 +6,6 @@ use Prim.Native.Nat.{ℕ, zero, suc, _+_, _*_, _-_, _/_, _%_, _^_, _<_, _≤_}
 use native.Mathlib.Nat.{add-mul-div-right, add-mul-mod-self-right, div-div-eq-div-mul, div-eq-of-lt, mod-add-div', mod-eq-of-lt, mul-add-mod-self-left, pow-suc, not-suc-le-zero, le-of-suc-le-suc, div-lt-iff-lt-mul, le-div-iff-mul-le}
 use native.Mathlib.Omega.{arith}
 use borrow.Author.Tests.{ltb-true, ltb-false, lt-ltb, le-ltb}
-use lib.Arith.{digits-lt}
 use lib.Dec.{ltb}
 use lib.IntN.{ℤ, pos, negsuc, subℕ, pos-ne-negsuc}
 use lib.ListN.{length, getD}
@@ -67,10 +66,6 @@ digit-low hi lo i h l =
     ∙ digit-below lo (hi * 2 ^ (60 - k)) (2 ^ k) (pow-pos k))
 
 -- ---- the digits that two numbers share
-
-pub joined-lt : (M hi lo : ℕ) → M ≡ 2 ^ 128 → hi < 2 ^ 64 → lo < 2 ^ 64 → joined hi lo < M
-unfolding joined
-joined-lt M hi lo e h l = subst (λ (n : ℕ). hi * 2 ^ 64 + lo < n) (sym e) (digits-lt h l)
 
 pub low-word : (x : ℕ) → joined 0 x ≡ x
 unfolding joined
