@@ -86,7 +86,7 @@ install: $(ENGINE)
 	sed 's,@PREFIX@,$(PREFIX),' bbp.pc.in >$(DESTDIR)$(PREFIX)/lib/pkgconfig/bbp.pc
 
 vectors:
-	python3 tools/vectors.py >vectors.txt
+	python3 tools/vectors.py >tests/vectors.txt
 
 clean:
 	rm -rf build target

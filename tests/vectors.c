@@ -7,9 +7,9 @@
 
 static FILE *open_vectors(void)
 {
-    FILE *file = fopen("vectors.txt", "r");
+    FILE *file = fopen("tests/vectors.txt", "r");
     if (file == NULL) {
-        perror("vectors.txt");
+        perror("tests/vectors.txt");
         exit(2);
     }
     return file;

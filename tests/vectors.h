@@ -29,8 +29,8 @@ struct closing_vector {
 };
 
 /*
- * Each gives the number of lines of its kind. The file is vectors.txt of the
- * working directory. Tickets are of the kind "ticket", or "far": some million
+ * Each gives the number of lines of its kind. The file is tests/vectors.txt
+ * below the working directory. Tickets are of the kind "ticket", or "far": some million
  * terms, too many for the reference in a test.
  */
 int each_term(void (*use)(const struct term_vector *));

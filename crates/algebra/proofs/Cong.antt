@@ -1,7 +1,7 @@
 -- Congruence modulo n over ℕ, with a witness on each side: so that it is symmetric with no subtraction, and each law is one call of `omega`.
 -- Assumes nothing.
 use mathlib.Core.Path.{_≡_, refl, sym, ap, ap₂, _∙_}
-use Prim.Native.Nat.{ℕ, zero, suc, _+_, _*_, _-_, _/_, _%_, _^_, _≤_, _<_}
+use Prim.Native.Nat.{ℕ, _+_, _*_, _-_, _/_, _%_, _<_}
 use native.Mathlib.Nat.{add-mul-mod-self-right, div-add-mod', mod-eq-of-lt}
 use native.Mathlib.Omega.{arith}
 

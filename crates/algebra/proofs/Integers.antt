@@ -1,12 +1,12 @@
 -- Whole numbers as differences of naturals, so that `omega` can prove what is stated of them.
 -- Assumes nothing.
-use mathlib.Core.Path.{_≡_, refl, sym, ap, ap₂, _∙_, subst}
+use mathlib.Core.Path.{_≡_, sym, ap, _∙_}
 use mathlib.Core.Bool.{Bool, true, false, cond, not}
 use Prim.Native.Nat.{ℕ, zero, suc, _+_, _*_, _-_, _/_, _%_, _≤_, _<_}
-use native.Mathlib.Nat.{mod-add-div, mod-lt, mod-le, div-mul-le-self, lt-div-mul-add, add-mul-mod-self-left, mod-eq-of-lt, lt-of-mul-lt-mul-right}
+use native.Mathlib.Nat.{mod-add-div, mod-lt, div-mul-le-self, lt-div-mul-add, add-mul-mod-self-left, mod-eq-of-lt}
 use native.Mathlib.Omega.{arith}
 use lib.Dec.{T, leb, ltb, le→leb, ltb→lt, nltb→le}
-use lib.IntN.{ℤ, pos, negsuc, subℕ, negℤ, _+ℤ_, _-ℤ_, _*ℤ_}
+use lib.IntN.{ℤ, pos, negsuc, subℕ, negℤ, _+ℤ_, _*ℤ_}
 use lib.Signed.{_≤ℤ_}
 use Rattle.algebra.specs.Whole.{quotient, residue}
 

@@ -6,4 +6,3 @@ pub mod Integers
 pub mod Newton
 pub mod Montgomery
 pub mod Power
-pub mod Quotient

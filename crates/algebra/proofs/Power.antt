@@ -1,23 +1,11 @@
 -- The power of two by squaring, in Montgomery form with base W: x stands for 2 ^ E if x is W * 2 ^ E modulo n.
 -- Assumes nothing.
-use mathlib.Core.Path.{_≡_, refl, ap, sym, _∙_}
-use Prim.Native.Nat.{ℕ, zero, _+_, _*_, _-_, _/_, _%_, _^_, _<_}
-use native.Mathlib.Nat.{div-add-mod', div-div-eq-div-mul}
+use mathlib.Core.Path.{_≡_, ap, sym, _∙_}
+use Prim.Native.Nat.{ℕ, _+_, _*_, _-_, _/_, _%_, _^_}
+use native.Mathlib.Nat.{div-div-eq-div-mul}
 use native.Mathlib.Omega.{arith}
 use lib.Pow.{pow-add}
 use Rattle.algebra.proofs.Cong.{Mod, of-eq, refl-mod, trans, times, cancel}
-
--- a base with an inverse modulo n: from n's modulo the base
-pub unit-of : (W n μ : ℕ) → zero < n → n * μ % W ≡ 1 → (i : ℕ) × Mod n (W * i) 1
-unit-of W n μ h e =
-    let k = n * μ / W in
-    let m = n - 1 in
-    let next : m + 1 ≡ n = omega arith in
-    let whole : k * W + 1 ≡ n * μ = ap (λ t. k * W + t) (sym e) ∙ div-add-mod' (n * μ) W in
-    (k * m, record { k = 1; j = μ * m; eq = by k m next whole })
-  where
-    by : (k m : ℕ) → m + 1 ≡ n → k * W + 1 ≡ n * μ → W * (k * m) + 1 * n ≡ 1 + μ * m * n
-    by k m f g = omega (arith, ap (λ t. t * m) g)
 
 pub squared : (W i : ℕ) {n : ℕ} (E x s : ℕ) → Mod n (W * i) 1 → Mod n x (W * 2 ^ E) → Mod n (s * W) (x * x) → Mod n s (W * 2 ^ (E + E))
 squared W i {n} E x s u p q = cancel W i u (trans q (trans (times p p) (of-eq same)))

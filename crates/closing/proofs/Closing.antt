@@ -1,9 +1,9 @@
 -- The ways through closing: the number of the refusal for each test in order, and the digits written where none applies.
 -- Assumes nothing.
 use mathlib.Core.Path.{_≡_, refl, sym, ap, _∙_, subst}
-use mathlib.Core.Bool.{Bool, true, false, not, cond, _&&_}
+use mathlib.Core.Bool.{Bool, true, false, not, cond}
 use mathlib.Core.List.{List, _++_}
-use Prim.Native.Nat.{ℕ, zero, suc, _+_, _*_, _-_, _/_, _%_, _^_, _<_, _≤_}
+use Prim.Native.Nat.{ℕ, zero, suc, _+_, _-_, _/_, _%_, _^_, _<_, _≤_}
 use native.Mathlib.Omega.{arith}
 use borrow.Author.Tests.{eqb-true, eqb-false, not-false, eq-eqb, ne-eqb, ltb-true, ltb-false}
 use lib.Dec.{eqb, ltb}
@@ -22,7 +22,7 @@ use Rattle.series.specs.declared.Series.the-variants.{Bellard}
 use Rattle.interval.specs.Interval.{low, high, charges, unitAt}
 use Rattle.interval.specs.Digits.{settledUpTo, settled, lowDigits}
 use Rattle.run.specs.Refusal.{refusal}
-use Rattle.run.specs.Run.{Limits, limitsOf, inRange, isTicket}
+use Rattle.run.specs.Run.{Limits, limitsOf, inRange}
 use Rattle.run.proofs.Range.{Range, range-of, is-ticket}
 use Rattle.run.specs.Answers.{answerOf}
 use Rattle.run.specs.declared.Answer.{Answer}

@@ -2,18 +2,15 @@
 -- Assumes nothing.
 use mathlib.Core.Path.{_≡_, refl, sym, ap, _∙_, subst}
 use mathlib.Core.Bool.{Bool, true, false}
-use mathlib.Core.Logic.{⊎-elim}
-use mathlib.Core.List.{List}
 use Prim.Native.Nat.{ℕ, zero, suc, _+_, _*_, _-_, _/_, _%_, _^_, _<_, _≤_}
 use native.Mathlib.Nat.{add-mul-div-right, add-mul-mod-self-right, div-div-eq-div-mul, div-eq-of-lt, mod-add-div', mod-eq-of-lt, mul-add-mod-self-left, pow-suc, not-suc-le-zero, le-of-suc-le-suc, div-lt-iff-lt-mul, le-div-iff-mul-le}
 use native.Mathlib.Omega.{arith}
 use borrow.Author.Tests.{ltb-true, ltb-false, lt-ltb, le-ltb}
-use lib.Arith.{digits-lt}
 use lib.Dec.{ltb}
 use lib.IntN.{ℤ, pos, negsuc, subℕ, pos-ne-negsuc}
 use lib.ListN.{length, getD}
 use lib.Pow.{pow-pos, pow-add}
-use Rattle.algebra.specs.Whole.{quotient, residue}
+use Rattle.algebra.specs.Whole.{residue}
 use Rattle.algebra.proofs.Integers.{sub-cases}
 use Rattle.words.specs.Words.{joined}
 use Rattle.interval.specs.Interval.{unitAt, Settles}
@@ -69,10 +66,6 @@ digit-low hi lo i h l =
     ∙ digit-below lo (hi * 2 ^ (60 - k)) (2 ^ k) (pow-pos k))
 
 -- ---- the digits that two numbers share
-
-pub joined-lt : (M hi lo : ℕ) → M ≡ 2 ^ 128 → hi < 2 ^ 64 → lo < 2 ^ 64 → joined hi lo < M
-unfolding joined
-joined-lt M hi lo e h l = subst (λ (n : ℕ). hi * 2 ^ 64 + lo < n) (sym e) (digits-lt h l)
 
 pub low-word : (x : ℕ) → joined 0 x ≡ x
 unfolding joined

@@ -11,7 +11,7 @@ use Rattle.algebra.specs.Test.{allBelow}
 use Rattle.series.specs.Series.{Formula, rowCount, termCount}
 use Rattle.interval.specs.Interval.{low, high, unitAt}
 use Rattle.interval.specs.Digits.{settled, lowDigits}
-use Rattle.run.specs.Refusal.{Test, _⇐_, refusal, answer}
+use Rattle.run.specs.Refusal.{_⇐_, refusal, answer}
 use Rattle.run.specs.Run.{Limits, limitsOf}
 use Rattle.ledger.specs.Ledger.{posIn, blocksIn, totalIn, markIn, inOrder, ledgerSize}
 

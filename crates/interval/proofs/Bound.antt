@@ -1,16 +1,16 @@
 -- The exact sum of the first K terms of every row against the sum of their sizes: D for each charged term, on each side.
 -- Assumes nothing.
-use mathlib.Core.Path.{_≡_, refl, sym, ap, ap₂, _∙_, subst}
+use mathlib.Core.Path.{_≡_, ap, _∙_, subst}
 use mathlib.Core.Bool.{Bool, true, false, cond}
 use mathlib.Core.List.{List·Memᴰ}
-use Prim.Native.Nat.{ℕ, zero, suc, _+_, _*_, _-_, _/_, _%_, _^_, _≤_, _<_}
+use Prim.Native.Nat.{ℕ, _+_, _*_, _-_, _/_, _^_, _≤_, _<_}
 use native.Mathlib.Nat.{mod-add-div, mul-pos, add-zero}
 use native.Mathlib.Omega.{arith}
 use lib.Pow.{pow-pos}
-use Rattle.series.specs.Series.{Row, Formula, Side, plus, minus, modulus, size, divisor, rise, fall, sideSum}
+use Rattle.series.specs.Series.{Row, Formula, Side, modulus, size, divisor, rise, fall, sideSum}
 use Rattle.interval.specs.Exact.{exactTimes, MakesWhole}
-use Rattle.interval.specs.Interval.{charges, isCharged, unchargedTimes, Positive, RestBelowUnit}
-use Rattle.series.proofs.Sides.{side-le, side-add, side-mul, side-split}
+use Rattle.interval.specs.Interval.{charges, isCharged, unchargedTimes, Positive}
+use Rattle.series.proofs.Sides.{side-le, side-add, side-mul}
 use Rattle.interval.proofs.Terms.{floorOf, size-floor, quotient-low, quotient-high}
 
 -- how often 2 ^ 128 was taken out of a term

@@ -1,15 +1,14 @@
 -- For any list of rows whose N are at least 1 and whose uncharged terms stay below a unit: the exact sum at every length from K on
 -- lies from low to high modulo 2 ^ 128, and where low and high share a quotient, the exact sum has its lowest digits.
 -- Assumes nothing.
-use mathlib.Core.Path.{_≡_, refl, sym, ap, ap₂, _∙_, subst}
-use mathlib.Core.List.{List·Memᴰ}
-use Prim.Native.Nat.{ℕ, zero, suc, _+_, _*_, _-_, _/_, _%_, _^_, _≤_, _<_}
-use native.Mathlib.Nat.{zero-add, lt-of-mul-lt-mul-right, mul-le-mul-left, mul-lt-mul-of-pos-left, mul-pos, le-antisymm}
+use mathlib.Core.Path.{_≡_, refl, sym, ap, _∙_, subst}
+use Prim.Native.Nat.{ℕ, suc, _+_, _*_, _-_, _^_, _≤_, _<_}
+use native.Mathlib.Nat.{zero-add, lt-of-mul-lt-mul-right, mul-le-mul-left, mul-lt-mul-of-pos-left, mul-pos}
 use native.Mathlib.Omega.{arith}
 use lib.Pow.{pow-pos}
-use lib.IntN.{ℤ, pos, subℕ, negℤ, _-ℤ_, _+ℤ_, _*ℤ_}
+use lib.IntN.{ℤ, pos, subℕ, negℤ, _*ℤ_}
 use Rattle.algebra.specs.Whole.{residue, quotient}
-use Rattle.series.specs.Series.{Row, Formula, Side, plus, minus, modulus, size, sideSum, sizesSum}
+use Rattle.series.specs.Series.{Formula, Side, plus, minus, modulus, size, sideSum, sizesSum}
 use Rattle.interval.specs.Exact.{exactTimes, exactSum, MakesWhole}
 use Rattle.interval.specs.Digits.{hexText, lowDigits}
 use Rattle.interval.specs.Interval.{Settles, unitAt, charges, unchargedTimes, Positive, RestBelowUnit, low, high, LiesFrom}

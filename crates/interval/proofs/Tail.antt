@@ -1,19 +1,18 @@
 -- The exact terms from K on add up to less than one unit on each side, where the rows' first exponents are small enough for K:
 -- each column of terms is at most 2 ^ -step of the one before it, so that they add up as a geometric series.
 -- Assumes nothing.
-use mathlib.Core.Path.{_≡_, refl, sym, ap, ap₂, _∙_, subst}
+use mathlib.Core.Path.{_≡_, sym, ap, _∙_, subst}
 use mathlib.Core.Bool.{Bool, true, false, cond}
-use mathlib.Core.List.{List·Memᴰ}
-use Prim.Native.Nat.{ℕ, zero, suc, _+_, _*_, _-_, _/_, _%_, _^_, _≤_, _<_}
-use native.Mathlib.Nat.{mod-add-div, mul-pos, add-zero, zero-add, pow-zero, pow-suc, le-refl, mul-le-mul-left, mul-le-mul-right, mul-le-mul, div-mul-le-self, le-of-mul-le-mul-left, lt-of-mul-lt-mul-left, le-trans, zero-mul, mul-zero, mul-suc, mul-add}
+use Prim.Native.Nat.{ℕ, zero, suc, _+_, _*_, _-_, _/_, _^_, _≤_, _<_}
+use native.Mathlib.Nat.{add-zero, zero-add, pow-zero, pow-suc, le-refl, mul-le-mul-left, mul-le-mul-right, div-mul-le-self, le-of-mul-le-mul-left, lt-of-mul-lt-mul-left, le-trans, zero-mul, mul-zero, mul-suc, mul-add}
 use native.Mathlib.Numerals.{add-one}
 use native.Mathlib.Omega.{arith}
 use lib.Pow.{pow-pos, pow-add}
 use Rattle.algebra.specs.Sum.{sum}
-use Rattle.series.specs.Series.{Row, Formula, Side, plus, minus, modulus, size, skipped, divisor, rise, fall, onSide, rowSum, overRows, sideSum}
-use Rattle.interval.specs.Exact.{exactTimes, MakesWhole}
+use Rattle.series.specs.Series.{Row, Formula, Side, skipped, divisor, rise, fall, onSide, rowSum, overRows, sideSum}
+use Rattle.interval.specs.Exact.{exactTimes}
 use Rattle.interval.specs.Interval.{isCharged, unchargedTimes, Positive, RestBelowUnit}
-use Rattle.series.proofs.Sides.{side-split, side-mul, over-le, over-mul, over-ext}
+use Rattle.series.proofs.Sides.{side-split, side-mul, over-le, over-mul}
 
 -- the sum of the rows' 2 ^ lead
 abbrev pub leads : Formula → ℕ

@@ -1,15 +1,14 @@
 -- One term: its size is the rest of its exact value rounded down, and D times the exact value lies within one unit.
 -- Assumes nothing.
-use mathlib.Core.Path.{_≡_, refl, sym, ap, ap₂, _∙_, subst}
+use mathlib.Core.Path.{_≡_, refl, sym, ap, _∙_}
 use mathlib.Core.Bool.{Bool, true, false, cond}
-use Prim.Native.Nat.{ℕ, zero, suc, _+_, _*_, _-_, _/_, _%_, _^_, _≤_, _<_}
-use native.Mathlib.Nat.{add-zero, mul-div-mul-right, div-eq-of-lt, zero-mod, div-add-mod, mul-div-le, lt-mul-div-succ, mul-pos, mul-le-mul-left, mul-le-mul-right, le-of-mul-le-mul-left, le-of-lt, mul-comm}
+use Prim.Native.Nat.{ℕ, _+_, _*_, _-_, _/_, _%_, _^_, _≤_, _<_}
+use native.Mathlib.Nat.{add-zero, mul-div-mul-right, div-eq-of-lt, div-add-mod, mul-div-le, lt-mul-div-succ, mul-le-mul-left, mul-le-mul-right, le-of-mul-le-mul-left, le-of-lt}
 use native.Mathlib.Omega.{arith}
 use borrow.Author.Tests.{leb-true, leb-false}
 use lib.Pow.{pow-pos, pow-lt, pow-add}
-use lib.Dec.{leb, leb→le, nleb→lt, T}
-use Rattle.series.specs.Series.{Row, Formula, Side, modulus, size, divisor, rise, fall}
-use Rattle.interval.specs.Exact.{exactTimes}
+use lib.Dec.{leb}
+use Rattle.series.specs.Series.{Row, Formula, modulus, size, divisor, rise, fall}
 
 -- the exact term rounded down
 abbrev pub floorOf : Formula → ℕ → Row → ℕ → ℕ

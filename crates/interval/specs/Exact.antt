@@ -3,7 +3,7 @@ use mathlib.Core.Path.{_≡_}
 use mathlib.Core.List.{List·Memᴰ}
 use Prim.Native.Nat.{ℕ, _*_, _^_, _/_, _%_, _<_}
 use lib.IntN.{ℤ, subℕ}
-use Rattle.series.specs.Series.{Row, Formula, Side, plus, minus, divisor, rise, fall, sideSum}
+use Rattle.series.specs.Series.{Row, Formula, plus, minus, divisor, rise, fall, sideSum}
 
 -- The exact term k is 2 ^ E / N with its sign, negative E included: 2 ^ rise / (N * 2 ^ fall).
 

@@ -1,28 +1,24 @@
 -- The bytes of a plain ledger: what the refusal table sees of them is what it sees of the plain ledger, and a ticket entered makes
 -- of them the bytes of the plain ledger with the ticket put in.
 -- Assumes nothing.
-use mathlib.Core.Path.{_≡_, refl, sym, ap, ap₂, _∙_, subst, fun-ext}
-use mathlib.Core.Bool.{Bool, true, false, cond, not, _&&_, _||_}
-use mathlib.Core.Logic.{_≢_}
+use mathlib.Core.Path.{_≡_, refl, sym, ap, _∙_}
+use mathlib.Core.Bool.{Bool, true, false, not, _&&_, _||_}
 use mathlib.Core.List.{List, [], _∷_, _++_}
-use Prim.Native.Nat.{ℕ, zero, suc, _+_, _*_, _-_, _/_, _%_, _^_, _<_, _≤_}
-use native.Mathlib.Nat.{not-suc-le-zero, mod-lt, zero-add, suc-add}
+use Prim.Native.Nat.{ℕ, _+_, _*_, _-_, _/_, _%_, _^_, _<_}
+use native.Mathlib.Nat.{zero-add, suc-add}
 use native.Mathlib.Omega.{arith}
-use borrow.Author.Tests.{leb-true, ltb-true, ltb-false, eqb-true, eqb-false, eq-eqb, ne-eqb, lt-ltb, le-leb}
-use lib.Dec.{leb, ltb, eqb}
-use lib.Pow.{pow-pos}
+use borrow.Author.Tests.{ltb-false, eqb-true, eq-eqb}
+use lib.Dec.{ltb, eqb}
 use lib.ListN.{length, getD, set, take, drop, replicate, replicate-append-replicate}
-use lib.Seq.{getD-drop, getD-append-add}
-use Rattle.algebra.specs.Test.{allBelow}
-use Rattle.algebra.proofs.Booleans.{and-left, and-right}
+use lib.Seq.{getD-drop}
 use Rattle.algebra.proofs.Below.{all-true}
 use Rattle.words.specs.Bytes.{bytesOf, valueOf, field}
 use Rattle.words.proofs.Bytes.{value-bytes}
 use Rattle.series.specs.Series.{modulus}
 use Rattle.run.specs.Run.{Limits, inRange, isTicket}
-use Rattle.run.proofs.Range.{Range, range-of, ticket-row, ticket-block}
-use Rattle.ledger.specs.Ledger.{View, ledgerSize, head, posIn, blocksIn, totalIn, bitIn, markIn, inOrder, viewOf, enter, fresh}
-use Rattle.ledger.specs.Plain.{Plain, Entry, plainView, encode, admit, including, isOf, markRows, markByte, opened}
+use Rattle.run.proofs.Range.{range-of, ticket-row, ticket-block}
+use Rattle.ledger.specs.Ledger.{ledgerSize, head, posIn, blocksIn, totalIn, bitIn, markIn, inOrder, viewOf, enter, fresh}
+use Rattle.ledger.specs.Plain.{Plain, Entry, plainView, encode, admit, including, markRows, markByte, opened}
 use Rattle.ledger.proofs.Marks.{bit, mark-at, mark-set, byte-bit, length-mark-rows, rows-none}
 
 bit-eqb : (b : Bool) → eqb (bit b) 1 ≡ b

@@ -1,9 +1,8 @@
 -- The numbers of a term in words of 64 bits: 4 n + 130, E, the step's multiples and N all fit, for each k below K.
 -- Assumes nothing.
 use mathlib.Core.Path.{_≡_, ap}
-use Prim.Native.Nat.{ℕ, _+_, _*_, _-_, _/_, _%_, _^_, _≤_, _<_}
-use mathlib.Core.Logic.{_↔_}
-use native.Mathlib.Nat.{mul-le-mul-left, mul-div-le, div-mul-le-self, div-le-self, le-div-iff-mul-le, div-add-mod', le-trans}
+use Prim.Native.Nat.{ℕ, _+_, _*_, _/_, _%_, _^_, _≤_, _<_}
+use native.Mathlib.Nat.{mul-le-mul-left, mul-div-le, div-mul-le-self, div-le-self, le-div-iff-mul-le, le-trans}
 use native.Mathlib.Omega.{arith}
 use lib.Dec.{lit<, lit≤}
 use Rattle.series.specs.Series.{Formula, Row, skipped, divisor, fall, termCount}

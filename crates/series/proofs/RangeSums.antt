@@ -1,8 +1,8 @@
 -- The signed sum of a range of terms, one term at a time: as a loop meets it that adds or subtracts modulo 2 ^ 128.
 -- Assumes nothing.
-use mathlib.Core.Path.{_≡_, refl, sym, ap, ap₂, subst⁻¹, _∙_}
+use mathlib.Core.Path.{_≡_, sym, ap, ap₂, subst⁻¹, _∙_}
 use mathlib.Core.Bool.{Bool, true, false, not, cond}
-use Prim.Native.Nat.{ℕ, _+_, _*_, _-_, _%_, _^_, _≤_, _<_}
+use Prim.Native.Nat.{ℕ, _+_, _-_, _%_, _≤_, _<_}
 use native.Mathlib.Nat.{add-zero, sub-self, mod-lt}
 use native.Mathlib.Omega.{arith}
 use lib.Dec.{lit<}

@@ -1,6 +1,6 @@
 -- What makes the code's arithmetic on 64-bit words exact: a position in range, and a row whose numbers are odd and small enough.
 use mathlib.Core.Path.{_≡_}
-use Prim.Native.Nat.{ℕ, _+_, _*_, _%_, _^_, _≤_, _<_}
+use Prim.Native.Nat.{ℕ, _%_, _^_, _≤_, _<_}
 use Rattle.series.specs.Series.{Formula, Row, divisor, termCount}
 
 -- p is a position of the formula's runs

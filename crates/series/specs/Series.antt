@@ -1,7 +1,7 @@
 -- A formula as a value: its rows, the terms of a row, their sizes and the sums of a range of them. Document 01, "The rows".
-use mathlib.Core.Bool.{Bool, true, false, not, cond}
+use mathlib.Core.Bool.{Bool, true, not, cond}
 use mathlib.Core.List.{List, [], _∷_}
-use Prim.Native.Nat.{ℕ, zero, suc, _+_, _*_, _-_, _^_, _/_, _%_}
+use Prim.Native.Nat.{ℕ, _+_, _*_, _-_, _^_, _/_, _%_}
 use lib.Dec.{leb, eqb}
 use lib.IntN.{subℕ}
 use lib.ListN.{getD, length}

@@ -1,16 +1,11 @@
 -- The marked figures hold, each by computation; and position 1 has the known digits of pi.
 -- Assumes nothing.
-use mathlib.Core.Path.{_≡_, refl, sym, ap, _∙_}
-use mathlib.Core.List.{List, [], _∷_}
-use Prim.Native.Nat.{ℕ, suc}
-use lib.IntN.{ℤ, pos}
-use lib.ListN.{replicate}
+use mathlib.Core.Path.{refl}
 use Rattle.algebra.specs.Sum.{sum}
 use Rattle.algebra.specs.Test.{allBelow}
 use Rattle.algebra.specs.Whole.{residue, sameℤ}
 use Rattle.words.specs.Bytes.{bytesOf, valueOf, field}
-use Rattle.series.specs.Series.{size, isAdded, termCount, onSide, rowSum, overRows, sideSum, sizesSum}
-use Rattle.series.specs.Bellard.{bellard}
+use Rattle.series.specs.Series.{size, isAdded, termCount, onSide, rowSum, overRows, sideSum}
 use Rattle.interval.specs.Interval.{isCharged, charges, low, high}
 use Rattle.interval.specs.Digits.{settledUpTo, settled, hexDigit, hexText, lowDigits}
 use Rattle.run.specs.Refusal.{refusal, answer}

@@ -4,22 +4,21 @@ use mathlib.Core.Path.{_≡_, refl, sym, ap, ap₂, _∙_, subst}
 use mathlib.Core.Bool.{Bool, true, false, cond, _&&_, _||_}
 use mathlib.Core.Logic.{_⊎_, inl, inr, ⊎-elim}
 use mathlib.Core.List.{List, [], _∷_, _++_, foldl, List·Memᴰ, List·Memᴰ·head, List·Memᴰ·tail, List·Memᴰ·append-cases, List·Memᴰ·not-nil}
-use Prim.Native.Nat.{ℕ, zero, suc, _+_, _^_, _<_}
+use Prim.Native.Nat.{ℕ, zero, suc, _+_, _<_}
 use native.Mathlib.Nat.{not-suc-le-zero}
-use native.Mathlib.Omega.{arith}
 use borrow.Author.Tests.{eq-eqb}
 use lib.Dec.{eqb}
-use lib.ListN.{length}
 use lib.Pow.{pow-pos}
 use Rattle.algebra.proofs.Booleans.{below-or}
 use Rattle.algebra.proofs.Integers.{residue-lt}
 use Rattle.words.specs.Bytes.{bytesOf, valueOf}
 use Rattle.words.proofs.Bytes.{length-bytes, value-bytes}
 use Rattle.series.specs.Series.{Formula, rowCount, modulus, rangeSum}
-use Rattle.run.specs.Run.{limitsOf, isTicket, ticketSum}
+use Rattle.run.specs.Run.{limitsOf, ticketSum}
 use Rattle.run.proofs.Range.{ticket-row, ticket-block}
 use Rattle.ledger.specs.Plain.{Plain, Entry, plainView, admit, isOf, opened}
 use Rattle.sheet.specs.Posts.{Post, ticket, postRefusal, postEntries, plainPost, occurring, occurrences, contains}
+use Rattle.sheet.proofs.Singles.{singles}
 use Rattle.settlement.specs.Settlement.{Filled}
 
 ticket-sum-lt : (F : Formula) (p C row block : ℕ) → ticketSum F p C row block < modulus
@@ -53,11 +52,6 @@ module _ (F : Formula) (p C : ℕ) where
   grid zero = []
   grid (suc r) = blocks r C ++ grid r
 
-  -- a post for each
-  pub postsOf : List Entry → List Post
-  postsOf [] = []
-  postsOf (t ∷ ts) = ticket p C (t .row) (t .block) (bytesOf 16 (t .sum)) ∷ postsOf ts
-
   pub Right : Entry → Type 0
   Right t = t .sum ≡ ticketSum F p C (t .row) (t .block)
 
@@ -74,8 +68,8 @@ module _ (F : Formula) (p C : ℕ) where
   AllRight : List Entry → Type 0
   AllRight ts = (t : Entry) → List·Memᴰ t ts → Right t
 
-  occurrences-are : (s : Plain) (ts : List Entry) → (s .p ≡ p) × (s .C ≡ C) → AllRight ts → occurrences (limitsOf F) s (postsOf ts) ≡ ts
-  unfolding occurrences postsOf AllRight
+  occurrences-are : (s : Plain) (ts : List Entry) → (s .p ≡ p) × (s .C ≡ C) → AllRight ts → occurrences (limitsOf F) s (singles p C ts) ≡ ts
+  unfolding occurrences singles AllRight
   occurrences-are s [] h r = refl
   occurrences-are s (t ∷ ts) h r =
       ap₂ _++_ (occurs-as s t h (r t (List·Memᴰ·head refl)))
@@ -134,7 +128,7 @@ module _ (F : Formula) (p C : ℕ) where
   unfolding opened AllRight Right
   filled-exists =
       let e = occurrences-are (opened p C) (grid (rowCount F)) (refl, refl) (grid-right (rowCount F)) in (
-        postsOf (grid (rowCount F)),
+        singles p C (grid (rowCount F)),
         record {
           occurs = λ row block h. subst (λ (l : List Entry). contains l row block ≡ true) (sym e)
               (grid-has (rowCount F) row block (ticket-row (limitsOf F) C row block h) (ticket-block (limitsOf F) C row block h));

@@ -2,7 +2,7 @@
 -- The total of a plain ledger is the sum of the tickets in its set, as long as each carries its right sum.
 -- Assumes nothing.
 use mathlib.Core.Path.{_≡_, refl, sym, ap, ap₂, _∙_, subst}
-use mathlib.Core.Bool.{Bool, true, false, cond, not, _&&_, _||_}
+use mathlib.Core.Bool.{Bool, true, false, cond, _&&_, _||_}
 use mathlib.Core.Logic.{_⊎_, inl, inr, ⊎-elim}
 use mathlib.Core.List.{List, [], _∷_, _++_, foldl, List·Memᴰ, List·Memᴰ·head, List·Memᴰ·tail, Memᴰ·append-left, Memᴰ·append-right}
 use Prim.Native.Nat.{ℕ, _+_, _%_, _^_, _<_}
@@ -14,7 +14,6 @@ use lib.ListN.{length}
 use Rattle.algebra.specs.Sum.{sum}
 use Rattle.algebra.proofs.Sums.{sum-ext, sum-zero, sum-bump}
 use Rattle.series.specs.Series.{Formula, rowCount, modulus}
-use Rattle.run.specs.Refusal.{refusal}
 use Rattle.run.specs.Run.{limitsOf, inRange, isTicket, ticketSum}
 use Rattle.run.proofs.Answering.{passes}
 use Rattle.run.proofs.Range.{ticket-row, ticket-block, is-ticket}
@@ -22,9 +21,9 @@ use Rattle.ledger.specs.Plain.{Plain, Entry, plainView, admit, including, isOf,
 use Rattle.ledger.specs.Calls.{ticketRefusal}
 use Rattle.ledger.proofs.Image.{Good, including-here, including-else}
 use Rattle.sheet.specs.Sheet.{entries}
-use Rattle.sheet.specs.Calls.{sheetRefusal}
 use Rattle.sheet.specs.Posts.{Post, ticket, sheet, postRefusal, postEntries, plainPost, plainPosts, occurring, occurrences, contains}
 use Rattle.sheet.proofs.Simulation.{Ready, good-admit, good-opened, post-ready, step}
+use Rattle.sheet.proofs.Singles.{not-refused}
 use Rattle.settlement.specs.Settlement.{Filled, allSums}
 
 module _ (F : Formula) (p C : ℕ) where
@@ -147,13 +146,6 @@ module _ (F : Formula) (p C : ℕ) where
       go true f false g ih = ih (rw (f, g) at e)
       go false f b g ih = ih (rw f at e)
 
-  -- a single post of a ticket of the run, with its p and C and a sum of 16 bytes, is refused only where the ticket is in the set
-  not-refused : (s : Plain) (q D row block : ℕ) (x : List ℕ) → Good (limitsOf F) s → q ≡ s .p → D ≡ s .C → length x ≡ 16
-      → isTicket (limitsOf F) (s .C) row block ≡ true → s .tickets row block ≡ false → postRefusal (limitsOf F) (plainView s) (ticket q D row block x) ≡ 0
-  unfolding postRefusal ticketRefusal plainView refusal
-  not-refused s q D row block x g eq eD l h new =
-      rw (eq, eD, l, g .range, h, eq-eqb (s .p) (s .p) refl, eq-eqb (s .C) (s .C) refl, new) refl
-
   -- what a set has stays there, whatever the post
   old-stays : (s : Plain) (ts : List Entry) (row block : ℕ) (b : Bool) → s .tickets row block ≡ true
       → cond b (foldl admit s ts) s .tickets row block ≡ true
@@ -197,7 +189,7 @@ module _ (F : Formula) (p C : ℕ) where
       held false f eq eD l same e =
           let h′ = subst (λ (n : ℕ). isTicket (limitsOf F) (s .C) n k ≡ true) (sym (same .0)) (subst (λ (n : ℕ). isTicket (limitsOf F) (s .C) row n ≡ true) (sym (same .1)) h) in
           let f′ = subst (λ (n : ℕ). s .tickets n k ≡ false) (sym (same .0)) (subst (λ (n : ℕ). s .tickets row n ≡ false) (sym (same .1)) f) in
-          rw (not-refused s q D r k x g eq eD l h′ f′) (joins s entry row block e)
+          rw (not-refused (limitsOf F) s q D r k x g eq eD l h′ f′) (joins s entry row block e)
 
       named : (a : Bool) → eqb q (s .p) ≡ a → (b : Bool) → eqb D (s .C) ≡ b → (c : Bool) → eqb (length x) 16 ≡ c
           → contains (cond (a && b && c) entry []) row block ≡ true

@@ -1,12 +1,12 @@
 -- What demand 3 gives at position 1, worked out: every list that fills the run closes with the first thirty hexadecimal digits of pi.
 -- Assumes nothing.
-use mathlib.Core.Path.{_≡_, refl, sym, ap, ap₂, _∙_, subst}
+use mathlib.Core.Path.{_≡_, refl, ap, _∙_, subst}
 use mathlib.Core.Bool.{true}
-use mathlib.Core.List.{List, [], _∷_, _++_}
-use Prim.Native.Nat.{ℕ, _*_, _^_, _<_, _≤_}
+use mathlib.Core.List.{List, _++_}
+use Prim.Native.Nat.{ℕ, _≤_}
 use native.Mathlib.Nat.{le-refl}
 use native.Mathlib.Omega.{arith}
-use lib.IntN.{ℤ, pos}
+use lib.IntN.{pos}
 use lib.ListN.{length, drop}
 use Rattle.algebra.specs.Sum.{sum}
 use Rattle.algebra.specs.Whole.{residue, quotient, sameℤ}
@@ -19,7 +19,7 @@ use Rattle.interval.proofs.Denominator.{whole-exists}
 use Rattle.interval.proofs.Digits.{at-most}
 use Rattle.interval.proofs.Settling.{shared-digits}
 use Rattle.run.specs.Run.{limitsOf, inRange}
-use Rattle.run.proofs.Range.{Range, range-of}
+use Rattle.run.proofs.Range.{range-of}
 use Rattle.ledger.specs.Ledger.{fresh}
 use Rattle.sheet.specs.Posts.{Post, postsBytes}
 use Rattle.closing.specs.Closing.{lowOf, highOf, closeAnswer, closeBytes}

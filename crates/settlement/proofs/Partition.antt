@@ -5,7 +5,7 @@ use mathlib.Core.Bool.{Bool, true, false}
 use mathlib.Core.Logic.{_⊎_, inl, inr, ⊎-elim}
 use mathlib.Core.List.{List, [], _∷_}
 use Prim.Native.Nat.{ℕ, zero, suc, _+_, _*_, _-_, _/_, _%_, _≤_, _<_}
-use native.Mathlib.Nat.{zero-add, add-zero, zero-mul, zero-div, mul-div-right, mod-add-div, mod-lt, le-div-iff-mul-le, div-mul-le-self}
+use native.Mathlib.Nat.{zero-add, zero-mul, zero-div, mul-div-right, mod-add-div, mod-lt}
 use native.Mathlib.Numerals.{add-one}
 use native.Mathlib.Omega.{arith}
 use borrow.Author.Tests.{ltb-true, ltb-false}
@@ -21,6 +21,7 @@ use Rattle.algebra.proofs.Integers.{diff-sub, residue-is, residue-lt, same-resi
 use Rattle.series.specs.Series.{Row, Formula, Side, plus, minus, modulus, row, rowAt, rowCount, termCount, size, rowSum, overRows, sideSum, rangeSum, sizesSum}
 use Rattle.series.proofs.Sides.{row-split}
 use Rattle.run.specs.Run.{bound, ticketSum}
+use Rattle.run.proofs.Blocks.{bound-grows}
 use Rattle.settlement.specs.Settlement.{allSums}
 
 bound-zero : (K C : ℕ) → bound K C 0 ≡ 0
@@ -30,12 +31,6 @@ bound-zero K C = ap (λ (n : ℕ). n / C) (zero-mul K) ∙ zero-div C
 bound-all : (K C : ℕ) → 0 < C → bound K C C ≡ K
 unfolding bound
 bound-all K C h = mul-div-right K h
-
-bound-mono : (K C i : ℕ) → 0 < C → bound K C i ≤ bound K C (i + 1)
-unfolding bound
-bound-mono K C i h =
-    let l = div-mul-le-self (i * K) C in
-    le-div-iff-mul-le h .1 (omega (arith, l))
 
 -- ---- each term stands in exactly one block
 
@@ -56,24 +51,13 @@ find K C (suc n) k h = go (ltb k (bound K C n)) refl (find K C n k)
 pub block-exists : (K C k : ℕ) → 0 < C → k < K → (i : ℕ) × (i < C) × Holds K C i k
 block-exists K C k c h = find K C C k (subst (λ (m : ℕ). k < m) (sym (bound-all K C c)) h)
 
-later : (K C i d : ℕ) → 0 < C → bound K C (i + 1) ≤ bound K C (i + 1 + d)
-later K C i zero c = let e = ap (bound K C) (add-zero (i + 1)) in omega (arith, e)
-later K C i (suc d) c =
-    let h = later K C i d c in
-    let m = bound-mono K C (i + 1 + d) c in
-    let q : i + 1 + d + 1 ≡ i + 1 + suc d = omega arith in
-    let e = ap (bound K C) q in
-    omega (arith, h, m, e)
-
 -- a block after one that holds k starts past k
 no-later : (K C i j k : ℕ) → 0 < C → Holds K C i k → Holds K C j k → i < j → ⊥
 no-later K C i j k c h l m =
-    let q : i + 1 + (j - (i + 1)) ≡ j = omega arith in
-    let a = later K C i (j - (i + 1)) c in
-    let e = ap (bound K C) q in
+    let a = bound-grows K C (i + 1) j c (omega arith) in
     let h₁ = h .1 in
     let l₀ = l .0 in
-    omega (arith, a, e, h₁, l₀)
+    omega (arith, a, h₁, l₀)
 
 pub block-unique : (K C i j k : ℕ) → 0 < C → Holds K C i k → Holds K C j k → i ≡ j
 block-unique K C i j k c h l =
@@ -152,7 +136,7 @@ module _ (F : Formula) (p C : ℕ) (h : 0 < C) where
   whole-row : (side : Side) (r : Row) → sum (part side r) 0 C ≡ rowSum F side r (size F p r) 0 (termCount F p)
   unfolding part
   whole-row side r =
-      telescope F side r (size F p r) (bound (termCount F p) C) (bound-zero (termCount F p) C) (λ i. bound-mono (termCount F p) C i h) C
+      telescope F side r (size F p r) (bound (termCount F p) C) (bound-zero (termCount F p) C) (λ i. bound-grows (termCount F p) C i (i + 1) h (omega arith)) C
       ∙ ap (rowSum F side r (size F p r) 0) (bound-all (termCount F p) C h)
 
   row-eq : (r : Row) → rowSum F plus r (size F p r) 0 (termCount F p) + modulus * sum (over r) 0 C

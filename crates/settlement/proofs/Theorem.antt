@@ -1,7 +1,7 @@
 -- Demand 3, for any formula whose N are at least 1 and whose uncharged terms stay below a unit at every position; and for Bellard's.
 -- Assumes nothing.
 use mathlib.Core.Path.{_≡_, refl, sym, ap, _∙_, subst}
-use mathlib.Core.Bool.{Bool, true, false, cond}
+use mathlib.Core.Bool.{Bool, true, cond}
 use mathlib.Core.List.{List, _++_}
 use Prim.Native.Nat.{ℕ, zero, suc, _*_, _^_, _<_, _≤_}
 use native.Mathlib.Omega.{arith}
@@ -14,22 +14,22 @@ use Rattle.algebra.proofs.Below.{all-true}
 use Rattle.series.specs.Series.{Formula, rowCount, termCount, sizesSum}
 use Rattle.series.specs.Bellard.{bellard}
 use Rattle.interval.specs.Exact.{MakesWhole, exactSum}
-use Rattle.interval.specs.Interval.{low, high, LiesFrom, Positive, RestBelowUnit, Settles, unitAt}
+use Rattle.interval.specs.Interval.{LiesFrom, Positive, RestBelowUnit, Settles, unitAt}
 use Rattle.interval.specs.Digits.{settled, lowDigits}
 use Rattle.interval.proofs.Settling.{lies-from, shared-digits}
 use Rattle.interval.proofs.Digits.{greatest, none-settled, settled-none}
 use Rattle.interval.proofs.Bellard.{positive, bellard-rest}
 use Rattle.run.specs.Refusal.{refusal, answer}
 use Rattle.run.specs.Run.{limitsOf, inRange}
-use Rattle.run.proofs.Range.{Range, range-of, is-ticket}
-use Rattle.ledger.specs.Ledger.{fresh, ledgerSize, posIn, totalIn, blocksIn, inOrder, markIn}
+use Rattle.run.proofs.Range.{range-of, is-ticket}
+use Rattle.ledger.specs.Ledger.{fresh, ledgerSize, posIn, totalIn, markIn}
 use Rattle.ledger.specs.Plain.{Plain, opened, encode}
 use Rattle.ledger.specs.Calls.{openAnswer, openBytes, openRefusal}
 use Rattle.ledger.proofs.Image.{Good, pos-encode, blocks-encode, total-encode, order-encode, length-encode, mark-encode}
-use Rattle.sheet.specs.Posts.{Post, postsBytes, postsAnswers, plainPosts}
+use Rattle.sheet.specs.Posts.{Post, postsBytes, plainPosts}
 use Rattle.sheet.proofs.Simulation.{good-opened, posts-good, ledger-is, answers-are}
 use Rattle.closing.specs.Closing.{lowOf, highOf, settledAt, digitsAt, closeRefusal, closeAnswer, closeBytes}
-use Rattle.settlement.specs.Settlement.{Filled, allSums, Closed, Settled, Demand, Demand3}
+use Rattle.settlement.specs.Settlement.{allSums, Closed, Settled, Demand3}
 use Rattle.settlement.proofs.Filling.{filled-all, filled-total, kept-posts, kept-opened}
 use Rattle.settlement.proofs.Partition.{all-tickets}
 

@@ -8,9 +8,9 @@ use lib.ListN.{replicate}
 use Rattle.series.specs.Series.{rowAt, size, isAdded, termCount}
 use Rattle.series.specs.Bellard.{bellard}
 use Rattle.run.specs.Run.{limitsOf}
-use Rattle.ledger.specs.Plain.{Plain, encode}
+use Rattle.ledger.specs.Plain.{encode}
 use Rattle.closing.specs.Closing.{closeAnswer, closeBytes}
-use lib.Dec.{ltb, eqb}
+use lib.Dec.{eqb}
 
 -- A figure, with what the document gives for it.
 pub data Figure : Type 0 where

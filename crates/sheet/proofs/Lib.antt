@@ -7,3 +7,4 @@ pub mod Testing
 pub mod Over
 pub mod Admitting
 pub mod PostTests
+pub mod Singles

@@ -1,24 +1,22 @@
 -- A sheet or list with more tickets than its run has is refused by 3 or 4: strictly ascending tickets of a run with C blocks are at
 -- most C for each row. The tickets' places C * row + block ascend too (for C above 256, which no run has, their keys do).
 -- Assumes nothing.
-use mathlib.Core.Path.{_≡_, refl, sym, ap, _∙_}
-use mathlib.Core.Bool.{Bool, true, false, cond, _&&_}
+use mathlib.Core.Path.{_≡_, refl, ap}
+use mathlib.Core.Bool.{Bool, true, false}
 use mathlib.Core.Logic.{_⊎_, inl, inr}
 use mathlib.Core.List.{List, [], _∷_}
 use Prim.Native.Nat.{ℕ, zero, suc, _+_, _*_, _/_, _<_, _≤_}
 use native.Mathlib.Nat.{mul-le-mul-left, mul-le-mul-right}
 use native.Mathlib.Omega.{arith}
 use borrow.Author.Tests.{leb-true, leb-false, ltb-true, ltb-false}
-use lib.Dec.{leb, ltb, eqb}
-use lib.ListN.{length, getD}
-use Rattle.algebra.specs.Test.{allBelow}
-use Rattle.algebra.proofs.Booleans.{and-left, and-right, not-both}
-use Rattle.words.specs.Bytes.{field}
+use lib.Dec.{leb, ltb}
+use lib.ListN.{length}
+use Rattle.algebra.proofs.Booleans.{and-left, and-right}
 use Rattle.series.specs.Series.{Formula}
 use Rattle.run.specs.Run.{Limits, isTicket}
 use Rattle.run.proofs.Range.{ticket-row, ticket-block}
 use Rattle.ledger.specs.Plain.{Entry}
-use Rattle.sheet.specs.Sheet.{every, allTickets, key, ascending, wellFormed, sheetLength, sheetBlocks, sheetCount, entriesFrom, entries, listed}
+use Rattle.sheet.specs.Sheet.{every, allTickets, key, ascending, wellFormed, sheetBlocks, sheetCount, entriesFrom, entries, listed}
 use Rattle.sheet.proofs.Simulation.{formed}
 
 -- values that ascend strictly below N are at most N

@@ -1,6 +1,6 @@
 -- What the writer writes, the reader takes and gives back; and an accepted sheet with right sums is what the writer writes.
 -- Assumes nothing.
-use mathlib.Core.Path.{_≡_, refl, sym, ap, ap₂, _∙_, subst}
+use mathlib.Core.Path.{_≡_, refl, sym, ap, ap₂, _∙_}
 use mathlib.Core.Bool.{Bool, true, false, not, _&&_, _||_}
 use mathlib.Core.List.{List, [], _∷_, _++_, List·Memᴰ, List·Memᴰ·head, List·Memᴰ·tail}
 use Prim.Native.Nat.{ℕ, zero, suc, _+_, _*_, _/_, _%_, _^_, _<_, _≤_}
@@ -9,7 +9,7 @@ use native.Mathlib.Omega.{arith}
 use borrow.Author.Tests.{ltb-false, eqb-true, eqb-false, le-ltb, eq-eqb, ne-eqb, not-false}
 use lib.Dec.{ltb, eqb}
 use lib.IntN.{pos}
-use lib.ListN.{length, getD, take, drop, length-append}
+use lib.ListN.{length, getD, length-append}
 use lib.Pow.{pow-pos}
 use lib.Seq.{getD-drop, take-at}
 use Rattle.algebra.specs.Test.{allBelow}
@@ -17,19 +17,18 @@ use Rattle.algebra.proofs.Booleans.{and-left, and-right, neither}
 use Rattle.algebra.proofs.Below.{all-true, all-at}
 use Rattle.algebra.proofs.Integers.{residue-lt}
 use Rattle.words.specs.Bytes.{bytesOf, valueOf, field, AllBytes}
-use Rattle.words.proofs.Bytes.{length-bytes}
 use Rattle.series.specs.Series.{Formula, rowCount, modulus, rangeSum}
-use Rattle.run.specs.Refusal.{Test, _⇐_, refusal, answer}
+use Rattle.run.specs.Refusal.{refusal, answer}
 use Rattle.run.specs.Run.{Limits, limitsOf, inRange, isTicket, ticketSum}
 use Rattle.run.proofs.Answering.{passes}
-use Rattle.run.proofs.Range.{Range, range-of, ticket-row, ticket-block}
+use Rattle.run.proofs.Range.{range-of, ticket-row, ticket-block}
 use Rattle.ledger.specs.Ledger.{View}
 use Rattle.ledger.specs.Plain.{Entry}
 use Rattle.sheet.specs.Sheet.{sheetLength, sheetMost, listMost, sheetPos, sheetBlocks, sheetCount, entries, every, allTickets, key, ascending, wellFormed, contentsOf, bodiesOf, sheetOf, listOf, listed}
 use Rattle.sheet.specs.Calls.{over, writeRefusal, writeAnswer, writeBytes, readRefusal, readAnswer, readList, readSums, sheetRefusal}
 use Rattle.sheet.specs.RoundTrip.{Fits, written, ReadsBack, WrittenReadsBack, Accepted, RightSums, AcceptedIsWritten}
 use Rattle.sheet.proofs.Simulation.{formed}
-use Rattle.sheet.proofs.Many.{run-holds, count-entries, count-listed}
+use Rattle.sheet.proofs.Many.{count-entries, count-listed}
 use Rattle.sheet.proofs.Sheets.{Fitting, pos-read, blocks-read, count-read, entries-read, sheet-again, length-contents}
 
 -- ---- what the writer has tested

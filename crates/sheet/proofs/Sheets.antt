@@ -5,12 +5,12 @@ use mathlib.Core.List.{List, [], _∷_, _++_, append-nil}
 use Prim.Native.Nat.{ℕ, zero, suc, _+_, _*_, _^_, _<_, _≤_}
 use native.Mathlib.Nat.{zero-add, add-zero}
 use native.Mathlib.Omega.{arith}
-use lib.ListN.{length, getD, take, drop, length-append}
+use lib.ListN.{length, getD, take, drop}
 use lib.Seq.{drop-drop, getD-drop, drop-cons, take-add, take-all, drop-append-seam}
 use Rattle.words.specs.Bytes.{bytesOf, valueOf, field, AllBytes}
-use Rattle.words.proofs.Bytes.{value-bytes, field-again, length-bytes}
+use Rattle.words.proofs.Bytes.{value-bytes, field-again}
 use Rattle.ledger.specs.Plain.{Entry}
-use Rattle.sheet.specs.Sheet.{sheetLength, sheetCount, sheetPos, sheetBlocks, rowIn, blockIn, sumIn, entriesFrom, entries, contentsOf, bodiesOf, sheetOf}
+use Rattle.sheet.specs.Sheet.{sheetCount, sheetPos, sheetBlocks, rowIn, blockIn, sumIn, entriesFrom, entries, contentsOf, bodiesOf, sheetOf}
 use Rattle.sheet.proofs.Many.{count-entries}
 
 -- each entry fits its bytes

@@ -4,7 +4,7 @@
 use mathlib.Core.Path.{_≡_, refl, sym, ap, ap₂, _∙_, subst}
 use mathlib.Core.Bool.{Bool, true, false, cond, not, _&&_}
 use mathlib.Core.List.{List, [], _∷_, foldl}
-use Prim.Native.Nat.{ℕ, suc, _+_, _*_, _^_, _<_, _≤_}
+use Prim.Native.Nat.{ℕ, _+_, _*_, _^_, _<_, _≤_}
 use native.Mathlib.Nat.{mod-lt}
 use native.Mathlib.Omega.{arith}
 use borrow.Author.Tests.{ltb-true, eqb-true, eqb-false, lt-ltb, not-true, not-false}
@@ -15,13 +15,13 @@ use lib.ListN.{length, getD}
 use Rattle.algebra.specs.Test.{allBelow}
 use Rattle.algebra.proofs.Booleans.{and-left, and-right, and-both}
 use Rattle.words.specs.Bytes.{field}
-use Rattle.run.specs.Refusal.{Test, _⇐_, refusal, answer}
+use Rattle.run.specs.Refusal.{answer}
 use Rattle.run.specs.Run.{Limits, inRange, isTicket}
 use Rattle.run.proofs.Answering.{passes}
 use Rattle.ledger.specs.Ledger.{View, viewOf, fresh}
 use Rattle.ledger.specs.Plain.{Plain, Entry, plainView, encode, admit, including, opened}
 use Rattle.ledger.specs.Calls.{ticketRefusal, ticketAnswer, ticketBytes}
-use Rattle.ledger.proofs.Image.{Good, including-here, including-else, view-encode, enter-encode, fresh-encode}
+use Rattle.ledger.proofs.Image.{Good, including-else, view-encode, enter-encode, fresh-encode}
 use Rattle.sheet.specs.Sheet.{every, allTickets, key, sheetLength, sheetPos, sheetBlocks, sheetCount, entries, ascending, wellFormed}
 use Rattle.sheet.specs.Calls.{sheetRefusal, sheetAnswer, sheetBytes, enterEntry}
 use Rattle.sheet.specs.Posts.{Post, ticket, sheet, postRefusal, postEntries, postBytes, postAnswer, plainAnswer, plainPost, postsBytes, postsAnswers, plainPosts, plainAnswers}

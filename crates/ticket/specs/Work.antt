@@ -7,7 +7,7 @@ use lib.IntN.{ℤ}
 use lib.ListN.{length}
 use Rattle.words.specs.Bytes.{bytesOf}
 use Rattle.series.specs.Series.{Formula}
-use Rattle.run.specs.Refusal.{Test, _⇐_, refusal, answer}
+use Rattle.run.specs.Refusal.{_⇐_, refusal, answer}
 use Rattle.run.specs.Run.{limitsOf, inRange, isTicket, ticketSum}
 
 unfoldable pub workRefusal : Formula → ℕ → ℕ → ℕ → ℕ → List ℕ → ℕ

@@ -28,50 +28,6 @@ fn wide(x: Wide) {
     io::print_hex(STDOUT_FILENO, x.lo, 16);
 }
 
-// K at position p.
-pub fn count(p: u64) {
-    text(b"count");
-    number(p);
-    if run::in_range(Series::Bellard, p, 1) {
-        number(series::terms::term_count(Series::Bellard, p));
-    }
-    text(b"\n");
-}
-
-// The bounds of block i of c.
-pub fn block(p: u64, c: u64, i: u64) {
-    text(b"block");
-    number(p);
-    number(c);
-    number(i);
-    if run::in_range(Series::Bellard, p, c) {
-        if i < c {
-            let count = series::terms::term_count(Series::Bellard, p);
-            number(ticket::bound(count, c, i));
-            number(ticket::bound(count, c, i + 1));
-        }
-    }
-    text(b"\n");
-}
-
-// The sign and the size of term k.
-pub fn term(p: u64, row: u64, k: u64) {
-    text(b"term");
-    number(p);
-    number(row);
-    number(k);
-    if run::in_range(Series::Bellard, p, 1) {
-        if run::is_ticket(Series::Bellard, 1, row, 0) {
-            if k < series::terms::term_count(Series::Bellard, p) {
-                let numbers = series::rows::row_at(Series::Bellard, row);
-                sign(series::terms::is_added(Series::Bellard, numbers, k));
-                wide(series::terms::size(Series::Bellard, p, numbers, k));
-            }
-        }
-    }
-    text(b"\n");
-}
-
 fn bytes(s: &[u8]) {
     text(b" ");
     let mut i = 0;
@@ -81,6 +37,84 @@ fn bytes(s: &[u8]) {
     }
 }
 
+fn refusal(r: Refusal) {
+    match r {
+        Refusal::OutOfRange => text(b" refused 2"),
+        Refusal::NoTicket => text(b" refused 4"),
+        _ => text(b" refused"),
+    }
+}
+
+fn count_at(p: u64) {
+    if !run::in_range(Series::Bellard, p, 1) {
+        return;
+    }
+    number(series::terms::term_count(Series::Bellard, p));
+}
+
+fn bounds_of(p: u64, c: u64, i: u64) {
+    if !run::in_range(Series::Bellard, p, c) {
+        return;
+    }
+    if c <= i {
+        return;
+    }
+    let count = series::terms::term_count(Series::Bellard, p);
+    number(ticket::bound(count, c, i));
+    number(ticket::bound(count, c, i + 1));
+}
+
+fn size_of(p: u64, row: u64, k: u64) {
+    if !run::in_range(Series::Bellard, p, 1) {
+        return;
+    }
+    if !run::is_ticket(Series::Bellard, 1, row, 0) {
+        return;
+    }
+    if series::terms::term_count(Series::Bellard, p) <= k {
+        return;
+    }
+    let numbers = series::rows::row_at(Series::Bellard, row);
+    sign(series::terms::is_added(Series::Bellard, numbers, k));
+    wide(series::terms::size(Series::Bellard, p, numbers, k));
+}
+
+fn sum_of(p: u64, c: u64, row: u64, block: u64) {
+    let mut sum = [0u8; 16];
+    match ticket::work(Series::Bellard, p, c, row, block, &mut sum) {
+        Answer::Finished(_) => bytes(&sum),
+        Answer::Refused(r) => refusal(r),
+    }
+}
+
+// K at position p.
+pub fn count(p: u64) {
+    text(b"count");
+    number(p);
+    count_at(p);
+    text(b"\n");
+}
+
+// The bounds of block i of c.
+pub fn block(p: u64, c: u64, i: u64) {
+    text(b"block");
+    number(p);
+    number(c);
+    number(i);
+    bounds_of(p, c, i);
+    text(b"\n");
+}
+
+// The sign and the size of term k.
+pub fn term(p: u64, row: u64, k: u64) {
+    text(b"term");
+    number(p);
+    number(row);
+    number(k);
+    size_of(p, row, k);
+    text(b"\n");
+}
+
 // The 16 bytes of a ticket's sum, or the refusal.
 pub fn ticket(p: u64, c: u64, row: u64, block: u64) {
     text(b"ticket");
@@ -88,14 +122,6 @@ pub fn ticket(p: u64, c: u64, row: u64, block: u64) {
     number(c);
     number(row);
     number(block);
-    let mut sum = [0u8; 16];
-    match ticket::work(Series::Bellard, p, c, row, block, &mut sum) {
-        Answer::Finished(_) => bytes(&sum),
-        Answer::Refused(r) => match r {
-            Refusal::OutOfRange => text(b" refused 2"),
-            Refusal::NoTicket => text(b" refused 4"),
-            _ => text(b" refused"),
-        },
-    }
+    sum_of(p, c, row, block);
     text(b"\n");
 }

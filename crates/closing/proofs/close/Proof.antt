@@ -1,6 +1,6 @@
 -- `closing::close` meets its contract: the digits are written after all tests.
 -- Assumes nothing.
-use mathlib.Core.Path.{_≡_, sym, ap, _∙_}
+use mathlib.Core.Path.{sym, ap, _∙_}
 use native.Mathlib.Omega.{arith}
 use denote.Ref.{now}
 use Rattle.series.specs.Names.{formulaOf}

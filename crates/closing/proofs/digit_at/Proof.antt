@@ -1,7 +1,7 @@
 -- `closing::digit_at` meets its contract: digits 0 to 15 stand in the upper word, the others in the lower one.
 -- Assumes nothing.
 use borrow.Author.Needs.{needs}
-use Prim.Native.Nat.{_<_, _≤_, _^_}
+use Prim.Native.Nat.{_<_, _^_}
 use Rattle.closing.proofs.TopDigits.{digit-high, digit-low}
 use Rattle.closing.proofs.digit_at.Statement.{statement}
 use Rattle.closing.proofs.digit_at.Tie as tie

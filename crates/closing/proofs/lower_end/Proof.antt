@@ -1,9 +1,9 @@
 -- `closing::lower_end` meets its contract: total - (b + 1) does not wrap where a digit is settled.
 -- Assumes nothing.
-use mathlib.Core.Path.{refl}
 use Prim.Native.Nat.{_<_, _^_}
 use denote.Ref.{now}
-use Rattle.closing.proofs.TopDigits.{joined-lt, low-word}
+use Rattle.words.proofs.Joined.{joined-lt}
+use Rattle.closing.proofs.TopDigits.{low-word}
 use Rattle.closing.proofs.Closing.{position-read, count-small, lower-is}
 use borrow.Author.Needs.{needs}
 use Rattle.closing.proofs.lower_end.Statement.{statement}
@@ -37,7 +37,7 @@ returns c =
     let l : (c .sub .result .hi < 2 ^ 64) × (c .sub .result .lo < 2 ^ 64) = search needs in
     lower-is _ (now (start .args .ledger)) _ _ _ _ (count .before .get .ensures) (count .term-count .ensures)
     (c .before .before .charges .ensures .0 _) (c .before .get-wide .ensures) _ _ (start .pre .1)
-    (joined-lt (2 ^ 128) _ _ refl (h .0) (h .1)) (joined-lt (2 ^ 128) _ _ refl (l .0) (l .1))
+    (joined-lt _ _ (h .0) (h .1)) (joined-lt _ _ (l .0) (l .1))
     (low-word _) (c .sub .ensures)
 
 pub lower-end-spec : {M : Type 1} → statement M

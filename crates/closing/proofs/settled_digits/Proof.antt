@@ -3,7 +3,7 @@
 -- Assumes nothing.
 use mathlib.Core.Path.{_≡_, refl, sym, ap, subst, _∙_}
 use mathlib.Core.Bool.{Bool, true, false}
-use Prim.Native.Nat.{ℕ, _+_, _-_, _*_, _%_, _^_, _<_, _≤_}
+use Prim.Native.Nat.{ℕ, _+_, _-_, _%_, _^_, _<_, _≤_}
 use native.Mathlib.Omega.{arith}
 use borrow.Author.Needs.{needs}
 use borrow.Author.Tests.{ltb-true, ltb-false}
@@ -11,7 +11,8 @@ use lib.Dec.{ltb}
 use lib.IntN.{pos, subℕ}
 use Rattle.words.specs.Words.{joined}
 use Rattle.interval.specs.Digits.{settled}
-use Rattle.closing.proofs.TopDigits.{joined-lt, low-word, negative-none, over-none, within-is, sub-exact, add-over, add-exact}
+use Rattle.words.proofs.Joined.{joined-lt}
+use Rattle.closing.proofs.TopDigits.{low-word, negative-none, over-none, within-is, sub-exact, add-over, add-exact}
 use Rattle.closing.proofs.settled_digits.Statement.{statement}
 use Rattle.closing.proofs.settled_digits.Tie as tie
 use Rattle.closing.proofs.settled_digits.Reads as reads
@@ -72,8 +73,8 @@ returns-2 c =
     let a = s .args in
     let h : (a .total .hi < 2 ^ 64) × (a .total .lo < 2 ^ 64) × (a .a + 1 < 2 ^ 64) = search needs in
     second (2 ^ 128) (joined (a .total .hi) (a .total .lo)) (a .a) (a .b) (joined 0 (a .b + 1)) (joined 0 (a .a + 1)) _
-    (c .before .before .before .before .is-less .result) refl (joined-lt (2 ^ 128) _ _ refl (h .0) (h .1))
-    (joined-lt (2 ^ 128) 0 (a .a + 1) refl (omega arith) (h .2)) (low-word (a .b + 1)) (low-word (a .a + 1))
+    (c .before .before .before .before .is-less .result) refl (joined-lt _ _ (h .0) (h .1))
+    (joined-lt 0 (a .a + 1) (omega arith) (h .2)) (low-word (a .b + 1)) (low-word (a .a + 1))
     (c .before .before .before .before .is-less .ensures) (c .before .before .before .if1 .left) (c .before .before .add .ensures)
     (c .before .is-less2 .result) (c .before .is-less2 .ensures) (c .if2 .taken)
 
@@ -91,10 +92,10 @@ returns-3 c =
     let h : (a .total .hi < 2 ^ 64) × (a .total .lo < 2 ^ 64) × (a .a + 1 < 2 ^ 64) = search needs in
     let l : (c .before .sub .result .hi < 2 ^ 64) × (c .before .sub .result .lo < 2 ^ 64) = search needs in
     third (2 ^ 128) (joined (a .total .hi) (a .total .lo)) (a .a) (a .b) (joined 0 (a .b + 1)) (joined 0 (a .a + 1)) _
-    (t .before .before .before .before .is-less .result) refl (joined-lt (2 ^ 128) _ _ refl (h .0) (h .1))
-    (joined-lt (2 ^ 128) 0 (a .a + 1) refl (omega arith) (h .2)) (low-word (a .b + 1)) (low-word (a .a + 1))
+    (t .before .before .before .before .is-less .result) refl (joined-lt _ _ (h .0) (h .1))
+    (joined-lt 0 (a .a + 1) (omega arith) (h .2)) (low-word (a .b + 1)) (low-word (a .a + 1))
     (t .before .before .before .before .is-less .ensures) (t .before .before .before .if1 .left) (t .before .before .add .ensures)
-    (t .before .is-less2 .result) _ _ (t .before .is-less2 .ensures) (t .if2 .left) (joined-lt (2 ^ 128) _ _ refl (l .0) (l .1))
+    (t .before .is-less2 .result) _ _ (t .before .is-less2 .ensures) (t .if2 .left) (joined-lt _ _ (l .0) (l .1))
     (c .before .sub .ensures) (c .shared-digits .ensures)
 
 pub settled-digits-spec : {M : Type 1} → statement M

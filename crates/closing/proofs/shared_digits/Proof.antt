@@ -1,11 +1,12 @@
 -- `closing::shared_digits` meets its contract. The loop's invariant: the numbers have the same quotient by 2 ^ (128 - 4 d).
 -- Assumes nothing.
-use Prim.Native.Nat.{ℕ, _+_, _-_, _^_, _≤_, _<_}
-use mathlib.Core.Path.{_≡_, refl, sym, ap, subst, _∙_}
+use Prim.Native.Nat.{_-_, _^_, _≤_, _<_}
+use mathlib.Core.Path.{sym, _∙_}
 use native.Mathlib.Omega.{arith}
 use borrow.Author.Needs.{needs}
 use Rattle.words.specs.Words.{joined}
-use Rattle.closing.proofs.TopDigits.{Share, joined-lt, share-none, share-next, share-stops, shared-is}
+use Rattle.words.proofs.Joined.{joined-lt}
+use Rattle.closing.proofs.TopDigits.{Share, share-none, share-next, share-stops, shared-is}
 use Rattle.closing.proofs.shared_digits.Statement.{statement}
 use Rattle.closing.proofs.shared_digits.Tie as tie
 use Rattle.closing.proofs.shared_digits.Reads as reads
@@ -21,7 +22,7 @@ loop-holds : tie.Need-loop-holds Inv-loop μ-loop
 loop-holds c =
     let a = c .args in
     let h : (a .a .hi < 2 ^ 64) × (a .a .lo < 2 ^ 64) × (a .b .hi < 2 ^ 64) × (a .b .lo < 2 ^ 64) = search needs in
-    (omega arith, share-none _ _ (joined-lt (2 ^ 128) _ _ refl (h .0) (h .1)) (joined-lt (2 ^ 128) _ _ refl (h .2) (h .3)))
+    (omega arith, share-none _ _ (joined-lt _ _ (h .0) (h .1)) (joined-lt _ _ (h .2) (h .3)))
 
 digit-at-requires : tie.Need-digit-at-requires Inv-loop μ-loop
 digit-at-requires c κs = search needs

@@ -1,10 +1,9 @@
 -- `ticket::bound` meets its contract: no part of the sum is above `count`.
 -- Assumes nothing.
-use Prim.Native.Nat.{ℕ, _+_, _*_, _/_, _%_, _^_, _≤_, _<_}
+use Prim.Native.Nat.{ℕ, _+_, _*_, _/_, _%_, _≤_}
 use native.Mathlib.Nat.{le-trans, mul-le-mul-right, mul-le-mul, mul-div-le, mod-lt, le-of-lt}
 use native.Mathlib.Omega.{arith}
 use borrow.Author.Needs.{needs}
-use Rattle.run.specs.Run.{bound}
 use Rattle.run.proofs.Blocks.{bound-parts, bound-le}
 use Rattle.ticket.proofs.bound.Statement.{statement}
 use Rattle.ticket.proofs.bound.Tie as tie

@@ -38,7 +38,7 @@ term-count-requires s κs = position _ _ (s .args .c) (s .pre .0)
 bound-requires : tie.Need-bound-requires
 bound-requires c κs =
     let s = c .before in
-    bounded (s .args .f) _ _ _ _ (s .args .block) (s .pre .0) (ticket-block _ _ _ _ (s .pre .1)) (c .term-count .ensures) (omega arith)
+    bounded (s .args .f) _ _ _ _ _ (s .pre .0) (ticket-block _ _ _ _ (s .pre .1)) (c .term-count .ensures) (omega arith)
 
 add-bound : tie.Need-add-bound
 add-bound c =
@@ -48,7 +48,7 @@ add-bound c =
 bound-requires-2 : tie.Need-bound-requires-2
 bound-requires-2 c κs =
     let s = c .before .before in
-    bounded (s .args .f) _ _ _ _ (s .args .block + 1) (s .pre .0) (ticket-block _ _ _ _ (s .pre .1)) (c .before .term-count .ensures) (omega arith)
+    bounded (s .args .f) _ _ _ _ _ (s .pre .0) (ticket-block _ _ _ _ (s .pre .1)) (c .before .term-count .ensures) (omega arith)
 
 range-sum-requires : tie.Need-range-sum-requires
 range-sum-requires c κs =

@@ -1,6 +1,6 @@
 -- `ticket::work` meets its contract: one law for each way out.
 -- Assumes nothing.
-use mathlib.Core.Path.{_≡_, sym, _∙_}
+use mathlib.Core.Path.{sym, _∙_}
 use borrow.Author.Needs.{needs}
 use borrow.Author.Tests.{not-true, not-false}
 use Rattle.ticket.proofs.Working.{wrong-size, out-of-range, no-ticket, worked}

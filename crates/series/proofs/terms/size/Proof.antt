@@ -1,13 +1,13 @@
 -- `series::terms::size` meets its contract: one law for E below 0 and one for the others; N is odd and fits by the rule of the table.
 -- Assumes nothing.
-use mathlib.Core.Path.{_≡_, refl, sym, ap, _∙_}
-use Prim.Native.Nat.{ℕ, _+_, _*_, _-_, _/_, _%_, _^_, _≤_, _<_}
+use mathlib.Core.Path.{_≡_, refl, ap, _∙_}
+use Prim.Native.Nat.{ℕ, _*_, _-_, _/_, _%_, _^_, _≤_, _<_}
 use native.Mathlib.Omega.{arith}
 use borrow.Author.Needs.{needs}
 use borrow.Author.Tests.{le-leb, lt-leb}
 use Rattle.words.specs.Words.{joined}
 use Rattle.series.specs.Series.{Formula, Row, rise, fall, divisor, modulus, size}
-use Rattle.series.proofs.Numbers.{last-small, step-positive, fall-small, divisor-fits, divisor-odd}
+use Rattle.series.proofs.Numbers.{last-small, fall-small, divisor-fits, divisor-odd}
 use Rattle.series.proofs.terms.size.Statement.{statement}
 use Rattle.series.proofs.terms.size.Tie as tie
 
