@@ -1,4 +1,5 @@
 // Each call of the engine, with its line.
+use crate::build;
 use crate::show;
 
 pub fn work(label: &[u8], p: u64, c: u64, row: u64, block: u64, sum: &mut [u8]) {
@@ -57,4 +58,11 @@ pub fn close(label: &[u8], ledger: &[u8], digits: &mut [u8]) {
     show::answer(b"close", label, a);
     show::buffer(before, show::checksum(digits));
     show::text(b"\n");
+}
+
+// Posts a sheet of one ticket of the run p, c to a fresh ledger of p = 1, C = 1.
+pub fn one_ticket(label: &[u8], p: u64, c: u64) {
+    let sheet = build::one(p, c);
+    let mut ledger = build::ledger(1, 1);
+    post_sheet(label, &mut ledger, &sheet);
 }

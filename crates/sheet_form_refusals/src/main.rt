@@ -1,4 +1,4 @@
-// Runs every refusal of posting a sheet, and the call at its limits.
+// Runs the refusals of posting a sheet that its sizes, range and form meet.
 // What it must print was worked out by another program, from document 01 alone.
 mod post_sheet;
 
