@@ -11,7 +11,7 @@ use Rattle.algebra.specs.Test.{allBelow}
 use Rattle.series.specs.Series.{Formula, rowCount, termCount}
 use Rattle.interval.specs.Interval.{low, high, unitAt}
 use Rattle.interval.specs.Digits.{settled, lowDigits}
-use Rattle.run.specs.Refusal.{_⇐_, refusal, answer}
+use Rattle.run.specs.Refusal.{Test, _⇐_, refusal, answer}
 use Rattle.run.specs.Run.{Limits, limitsOf}
 use Rattle.ledger.specs.Ledger.{posIn, blocksIn, totalIn, markIn, inOrder, ledgerSize}
 
@@ -30,12 +30,14 @@ settledAt F p total = settled (lowOf F p total) (highOf F p total)
 unfoldable pub digitsAt : Formula → ℕ → ℕ → ℕ → List ℕ
 digitsAt F p total d = lowDigits d (quotient (lowOf F p total) (unitAt d))
 
-unfoldable pub closeRefusal : Formula → List ℕ → List ℕ → ℕ
-closeRefusal F s digits =
-    refusal
-    ((1 ⇐ not (eqb (length s) (ledgerSize (limitsOf F))) || not (eqb (length digits) 32)) ∷ (5 ⇐ not (inOrder (limitsOf F) s))
+abbrev pub closeTests : Formula → List ℕ → List ℕ → List Test
+closeTests F s digits =
+    (1 ⇐ not (eqb (length s) (ledgerSize (limitsOf F))) || not (eqb (length digits) 32)) ∷ (5 ⇐ not (inOrder (limitsOf F) s))
     ∷ (8 ⇐ not (allBelow (rowCount F) (λ row. allBelow (blocksIn s) (λ block. markIn (limitsOf F) s row block))))
-    ∷ (9 ⇐ eqb (settledAt F (posIn s) (totalIn s)) 0) ∷ [])
+    ∷ (9 ⇐ eqb (settledAt F (posIn s) (totalIn s)) 0) ∷ []
+
+unfoldable pub closeRefusal : Formula → List ℕ → List ℕ → ℕ
+closeRefusal F s digits = refusal (closeTests F s digits)
 
 unfoldable pub closeAnswer : Formula → List ℕ → List ℕ → ℤ
 closeAnswer F s digits = answer (closeRefusal F s digits) (settledAt F (posIn s) (totalIn s))

@@ -2,3 +2,4 @@ pub mod Answering
 pub mod Range
 pub mod Blocks
 pub mod Positions
+pub mod Smallest

@@ -1,7 +1,9 @@
 -- The refusal table: numbered conditions, of which the smallest that applies is given. Document 01, "Refusal table".
-use mathlib.Core.Bool.{Bool, cond}
-use mathlib.Core.List.{List, [], _∷_}
-use Prim.Native.Nat.{ℕ, zero, suc}
+use mathlib.Core.Path.{_≡_}
+use mathlib.Core.Bool.{Bool, true, cond, _&&_}
+use mathlib.Core.List.{List, [], _∷_, List·Memᴰ}
+use Prim.Native.Nat.{ℕ, zero, suc, _≤_}
+use lib.Dec.{ltb}
 use lib.IntN.{ℤ, pos, negsuc}
 
 -- A condition with its number.
@@ -17,6 +19,31 @@ infix 20 _⇐_
 unfoldable pub refusal : List Test → ℕ
 refusal [] = 0
 refusal (t ∷ ts) = cond (t .applies) (t .number) (refusal ts)
+
+-- ---- "the smallest number that applies, and only where its condition holds"
+
+-- the numbers ascend strictly, each above n
+unfoldable pub ascendAbove : ℕ → List Test → Bool
+ascendAbove n [] = true
+ascendAbove n (t ∷ ts) = ltb n (t .number) && ascendAbove (t .number) ts
+
+-- the test of a list of tests: its numbers ascend strictly from 1 on
+abbrev pub ascend : List Test → Bool
+ascend ts = ascendAbove 0 ts
+
+-- n is the number of a test in the list whose condition holds
+pub record Applies (ts : List Test) (n : ℕ) : Type 0 where
+  pub test : Test
+  pub listed : List·Memᴰ test ts
+  pub number-is : test .number ≡ n
+  pub holds : test .applies ≡ true
+
+-- n is the smallest number that applies, or 0 exactly where none does
+pub record Smallest (ts : List Test) (n : ℕ) : Type 0 where
+  pub applies : (n ≡ 0 → ⊥) → Applies ts n
+  pub least : (m : ℕ) → Applies ts m → n ≤ m
+  pub none : n ≡ 0 → (m : ℕ) → Applies ts m → ⊥
+  pub only-none : ((m : ℕ) → Applies ts m → ⊥) → n ≡ 0
 
 -- what a call answers to C: a refusal's number negated, else the call's value
 unfoldable pub answer : ℕ → ℕ → ℤ

@@ -7,14 +7,16 @@ use lib.IntN.{ℤ}
 use lib.ListN.{length}
 use Rattle.words.specs.Bytes.{bytesOf}
 use Rattle.series.specs.Series.{Formula}
-use Rattle.run.specs.Refusal.{_⇐_, refusal, answer}
+use Rattle.run.specs.Refusal.{Test, _⇐_, refusal, answer}
 use Rattle.run.specs.Run.{limitsOf, inRange, isTicket, ticketSum}
 
+abbrev pub workTests : Formula → ℕ → ℕ → ℕ → ℕ → List ℕ → List Test
+workTests F p C row block out =
+    (1 ⇐ not (eqb (length out) 16)) ∷ (2 ⇐ not (inRange (limitsOf F) p C))
+    ∷ (4 ⇐ not (isTicket (limitsOf F) C row block)) ∷ []
+
 unfoldable pub workRefusal : Formula → ℕ → ℕ → ℕ → ℕ → List ℕ → ℕ
-workRefusal F p C row block out =
-    refusal
-    ((1 ⇐ not (eqb (length out) 16)) ∷ (2 ⇐ not (inRange (limitsOf F) p C))
-    ∷ (4 ⇐ not (isTicket (limitsOf F) C row block)) ∷ [])
+workRefusal F p C row block out = refusal (workTests F p C row block out)
 
 unfoldable pub workAnswer : Formula → ℕ → ℕ → ℕ → ℕ → List ℕ → ℤ
 workAnswer F p C row block out = answer (workRefusal F p C row block out) 0
