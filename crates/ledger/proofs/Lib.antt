@@ -4,3 +4,4 @@ pub mod Posting
 pub mod Marks
 pub mod Image
 pub mod Entering
+pub mod Decode

@@ -6,7 +6,7 @@ use lib.Dec.{eqb}
 use Rattle.words.specs.Bytes.{bytesOf}
 use Rattle.series.specs.Series.{modulus}
 use Rattle.run.specs.Run.{Limits}
-use Rattle.ledger.specs.Ledger.{View, head}
+use Rattle.ledger.specs.Ledger.{View, head, posIn, blocksIn, totalIn, markIn}
 
 -- A ticket of a run, with the sum that is offered for it.
 pub record Entry : Type 0 where
@@ -59,3 +59,7 @@ markRows m r (suc n) = markBytes (m r) 0 32 ++ markRows m (suc r) n
 
 unfoldable pub encode : Limits → Plain → List ℕ
 encode lim s = head (s .p) (s .C) ++ bytesOf 16 (s .total) ++ markRows (s .tickets) 0 (lim .rows)
+
+-- the plain ledger that the bytes of a ledger hold
+unfoldable pub decode : Limits → List ℕ → Plain
+decode lim s = record { p = posIn s; C = blocksIn s; tickets = markIn lim s; total = totalIn s }

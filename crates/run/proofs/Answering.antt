@@ -71,10 +71,16 @@ below-zero : (n value : ℕ) → 0 < n → negℤ (pos n) ≡ pos value → ⊥
 below-zero zero value h e = omega arith
 below-zero (suc n) value h e = let z : _≡_ {A = ℕ} 0 1 = cc in omega arith
 
-pub was-finished : (a : Answer) (v number value : ℕ) → a ≡ Finished v → answerOf a ≡ answer number value → (number ≡ 0) × (v ≡ value)
+-- a call that answered a value was not refused
+pub not-refused : (number value n : ℕ) → answer number value ≡ pos n → (number ≡ 0) × (value ≡ n)
 unfolding answer
-was-finished a v zero value f e = (refl, cc)
-was-finished a v (suc n) value f e = absurd (let z : _≡_ {A = ℕ} 0 1 = cc (ap answerOf f) in omega arith)
+not-refused zero value n e = (refl, cc)
+not-refused (suc m) value n e = absurd (let z : _≡_ {A = ℕ} 0 1 = cc in omega arith)
+
+pub was-finished : (a : Answer) (v number value : ℕ) → a ≡ Finished v → answerOf a ≡ answer number value → (number ≡ 0) × (v ≡ value)
+was-finished a v number value f e =
+    let n = not-refused number value v (sym e ∙ ap answerOf f) in
+    (n .0, sym (n .1))
 
 -- a refusal has some number, whatever the call's value
 pub was-number : (a : Answer) (r : Refusal) (number value : ℕ) → a ≡ Refused r → answerOf a ≡ answer number value

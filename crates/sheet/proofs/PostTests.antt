@@ -1,15 +1,15 @@
 -- The tests of posting a sheet, one law for each way out; and what is known where none applies.
 -- Assumes nothing.
 use mathlib.Core.Path.{_≡_, refl, sym, ap, ap₂, _∙_}
-use mathlib.Core.Bool.{Bool, true, false, not, _&&_, _||_}
+use mathlib.Core.Bool.{Bool, true, false, not, _&&_}
 use mathlib.Core.List.{List, [], _∷_, _++_, foldl}
 use Prim.Native.Nat.{ℕ, _+_, _*_, _<_, _≤_}
 use native.Mathlib.Omega.{arith}
 use borrow.Author.Tests.{eqb-true, eq-eqb, ne-eqb, lt-ltb, le-ltb, not-false}
-use lib.Dec.{eqb, ltb}
+use lib.Dec.{eqb}
 use lib.IntN.{pos, negsuc}
 use lib.ListN.{length}
-use Rattle.algebra.proofs.Booleans.{and-left, and-right, and-both, neither}
+use Rattle.algebra.proofs.Booleans.{and-left, and-right, and-both}
 use Rattle.words.specs.Bytes.{field}
 use Rattle.run.specs.Refusal.{Test, _⇐_, refusal, answer}
 use Rattle.run.specs.Run.{Limits, inRange, isTicket}
@@ -25,7 +25,7 @@ use Rattle.ledger.proofs.Posting.{mark-inside, mark-is-bit}
 use Rattle.sheet.specs.Sheet.{sheetLength, sheetMost, sheetPos, sheetBlocks, sheetCount, entriesFrom, entries, every, allTickets, ascending, wellFormed}
 use Rattle.sheet.specs.Tests.{byteTests, inside, unset, enterable}
 use Rattle.sheet.specs.Calls.{enterEntry, sheetRefusal, sheetAnswer, sheetBytes}
-use Rattle.sheet.proofs.Simulation.{every-and, formed}
+use Rattle.sheet.proofs.Simulation.{every-and, formed, sheet-taken}
 use Rattle.sheet.proofs.Testing.{formed-length}
 
 -- two tests that agree on what passes a third
@@ -151,22 +151,13 @@ module _ (lim : Limits) (ledger s : List ℕ) where
 module _ (lim : Limits) (ledger s : List ℕ) (a : Answer) (tested : answerOf a ≡ sheetAnswer lim ledger s) where
   pub none-applied : (v : ℕ) → a ≡ Finished v
       → (length s ≡ sheetLength (sheetCount s)) × (ascending (entries s) ≡ true) × (every (enterable ledger) (entries s) ≡ true)
-  unfolding sheetAnswer sheetRefusal viewOf
+  unfolding sheetAnswer viewOf
   none-applied v f =
-      let e₁ = passes 0 _ _ (was-finished a v _ 0 f tested .0) in
-      let e₂ = passes 1 _ _ (e₁ .1) in
-      let e₃ = passes 2 _ _ (e₂ .1) in
-      let e₄ = passes 3 _ _ (e₃ .1) in
-      let e₅ = passes 4 _ _ (e₄ .1) in
-      let e₆ = passes 5 _ _ (e₅ .1) in
-      let e₇ = passes 6 _ _ (e₆ .1) in
-      let size = neither (not (eqb (length ledger) (ledgerSize lim))) _ (neither (not (eqb (length ledger) (ledgerSize lim)) || ltb (length s) 16) _ (e₁ .0) .0) .0 in
-      let form = not-false _ (e₃ .0) in
-      let run = eqb-true (sheetBlocks s) (blocksIn ledger) (and-right (eqb (sheetPos s) (posIn ledger)) _ (not-false _ (e₆ .0))) in (
-        formed-length s form,
-        formed s form,
-        all-enterable lim ledger (sheetPos s) (sheetBlocks s) (entries s)
-            (eqb-true (length ledger) (ledgerSize lim) (not-false _ size)) (not-false _ (e₂ .0)) run (not-false _ (e₄ .0)) (not-false _ (e₇ .0)),
+      let t = sheet-taken lim (viewOf lim ledger) s (was-finished a v _ 0 f tested .0) in (
+        formed-length s (t .well-formed),
+        formed s (t .well-formed),
+        all-enterable lim ledger (sheetPos s) (sheetBlocks s) (entries s) (eqb-true (length ledger) (ledgerSize lim) (t .sized)) (t .range) (t .same-C)
+            (t .tickets) (t .new),
       )
 
   pub posted : (v : ℕ) (t : List ℕ) → a ≡ Finished v → t ≡ foldl enterEntry ledger (entries s)

@@ -1,7 +1,7 @@
 -- What the writer writes, the reader takes and gives back; and an accepted sheet with right sums is what the writer writes.
 -- Assumes nothing.
 use mathlib.Core.Path.{_≡_, refl, sym, ap, ap₂, _∙_}
-use mathlib.Core.Bool.{Bool, true, false, not, _&&_, _||_}
+use mathlib.Core.Bool.{Bool, true, false, _&&_, _||_}
 use mathlib.Core.List.{List, [], _∷_, _++_, List·Memᴰ, List·Memᴰ·head, List·Memᴰ·tail}
 use Prim.Native.Nat.{ℕ, zero, suc, _+_, _*_, _/_, _%_, _^_, _<_, _≤_}
 use native.Mathlib.Nat.{not-suc-le-zero, mod-eq-of-lt}
@@ -27,7 +27,7 @@ use Rattle.ledger.specs.Plain.{Entry}
 use Rattle.sheet.specs.Sheet.{sheetLength, sheetMost, listMost, sheetPos, sheetBlocks, sheetCount, entries, every, allTickets, key, ascending, wellFormed, contentsOf, bodiesOf, sheetOf, listOf, listed}
 use Rattle.sheet.specs.Calls.{over, writeRefusal, writeAnswer, writeBytes, readRefusal, readAnswer, readList, readSums, sheetRefusal}
 use Rattle.sheet.specs.RoundTrip.{Fits, written, ReadsBack, WrittenReadsBack, Accepted, RightSums, AcceptedIsWritten}
-use Rattle.sheet.proofs.Simulation.{formed}
+use Rattle.sheet.proofs.Simulation.{formed, sheet-taken}
 use Rattle.sheet.proofs.Many.{count-entries, count-listed}
 use Rattle.sheet.proofs.Sheets.{Fitting, pos-read, blocks-read, count-read, entries-read, sheet-again, length-contents}
 
@@ -347,18 +347,6 @@ read-accepted lim s list sums e =
     }
 
 pub post-accepted : (lim : Limits) (v : View) (s : List ℕ) → sheetRefusal lim v s ≡ 0 → Accepted lim s
-unfolding sheetRefusal
 post-accepted lim v s e =
-    let e₁ = passes 0 _ _ e in
-    let e₂ = passes 1 _ _ (e₁ .1) in
-    let e₃ = passes 2 _ _ (e₂ .1) in
-    let e₄ = passes 3 _ _ (e₃ .1) in
-    let b = neither (not (v .sized) || ltb (length s) 16) (ltb (sheetMost lim) (length s)) (e₁ .0) in
-    let a = neither (not (v .sized)) (ltb (length s) 16) (b .0) in
-    record {
-      size-low = ltb-false (length s) 16 (a .1);
-      size-high = ltb-false (sheetMost lim) (length s) (b .1);
-      range = not-false _ (e₂ .0);
-      formed = not-false _ (e₃ .0);
-      tickets = not-false _ (e₄ .0);
-    }
+    let t = sheet-taken lim v s e in
+    record { size-low = t .size-low; size-high = t .size-high; range = t .range; formed = t .well-formed; tickets = t .tickets }

@@ -8,7 +8,7 @@ use native.Mathlib.Omega.{arith}
 use lib.ListN.{length, getD, take, drop}
 use lib.Seq.{drop-drop, getD-drop, drop-cons, take-add, take-all, drop-append-seam}
 use Rattle.words.specs.Bytes.{bytesOf, valueOf, field, AllBytes}
-use Rattle.words.proofs.Bytes.{value-bytes, field-again}
+use Rattle.words.proofs.Bytes.{value-bytes, field-again, part-join}
 use Rattle.ledger.specs.Plain.{Entry}
 use Rattle.sheet.specs.Sheet.{sheetCount, sheetPos, sheetBlocks, rowIn, blockIn, sumIn, entriesFrom, entries, contentsOf, bodiesOf, sheetOf}
 use Rattle.sheet.proofs.Many.{count-entries}
@@ -132,23 +132,19 @@ module _ (s : List ℕ) (bytes : AllBytes s) where
       ∙ ap₂ _++_ (sym (field-again s m 16 bytes (omega arith)))
       (ap (take (16 * n)) (drop-drop 16 m s ∙ ap (λ (k : ℕ). drop k s) q₁) ∙ sym ih))
 
-  -- two neighbouring parts
-  join : (at v w : ℕ) → take v (drop at s) ++ take w (drop (at + v) s) ≡ take (v + w) (drop at s)
-  join at v w = sym (take-add v w (drop at s) ∙ ap (λ (x : List ℕ). take v (drop at s) ++ take w x) (drop-drop v at s))
-
   pub sheet-again : length s ≡ 16 + 20 * sheetCount s → field s 12 4 ≡ 0 → ((j : ℕ) → j < sheetCount s → getD s (17 + 4 * j) 0 ≡ 0)
       → sheetOf (sheetPos s) (sheetBlocks s) (entries s) ≡ s
   unfolding sheetOf sheetPos sheetBlocks sheetCount entries
   sheet-again l z zs =
       let e = sheetCount s in
       let head : bytesOf 8 (field s 0 8) ++ bytesOf 2 (field s 8 2) ++ bytesOf 2 (length (entriesFrom s 0 e)) ++ bytesOf 4 0 ≡ take 16 s =
-      ap₂ _++_ (ap₂ _++_ (ap₂ _++_ (field-again s 0 8 bytes (omega arith)) (field-again s 8 2 bytes (omega arith)) ∙ join 0 8 2)
-      (ap (bytesOf 2) (count-entries s e 0) ∙ count-again) ∙ join 0 10 2)
-      (ap (bytesOf 4) (sym z) ∙ field-again s 12 4 bytes (omega arith)) ∙ join 0 12 4 in
+      ap₂ _++_ (ap₂ _++_ (ap₂ _++_ (field-again s 0 8 bytes (omega arith)) (field-again s 8 2 bytes (omega arith)) ∙ part-join s 0 8 2)
+      (ap (bytesOf 2) (count-entries s e 0) ∙ count-again) ∙ part-join s 0 10 2)
+      (ap (bytesOf 4) (sym z) ∙ field-again s 12 4 bytes (omega arith)) ∙ part-join s 0 12 4 in
       let body : contentsOf (entriesFrom s 0 e) ≡ take (4 * e) (drop 16 s) = contents-again e 0 (omega arith) (λ j h. zs j (omega arith)) in
       let rest : bodiesOf (entriesFrom s 0 e) ≡ take (16 * e) (drop (0 + (16 + 4 * e)) s) =
       bodies-again e 0 (omega arith) ∙ ap (λ (k : ℕ). take (16 * e) (drop k s)) (add-zero (16 + 4 * e) ∙ sym (zero-add (16 + 4 * e))) in
-      ap₂ _++_ (ap₂ _++_ head body ∙ join 0 16 (4 * e)) rest ∙ join 0 (16 + 4 * e) (16 * e) ∙ take-all (16 + 4 * e + 16 * e) s (omega arith)
+      ap₂ _++_ (ap₂ _++_ head body ∙ part-join s 0 16 (4 * e)) rest ∙ part-join s 0 (16 + 4 * e) (16 * e) ∙ take-all (16 + 4 * e + 16 * e) s (omega arith)
     where
       count-again : bytesOf 2 (sheetCount s) ≡ take 2 (drop 10 s)
       count-again = field-again s 10 2 bytes (omega arith)

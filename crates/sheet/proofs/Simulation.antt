@@ -2,18 +2,18 @@
 -- since what is seen of the bytes is what is seen of the plain ledger, and each ticket that goes in makes the same step in both.
 -- Assumes nothing.
 use mathlib.Core.Path.{_≡_, refl, sym, ap, ap₂, _∙_, subst}
-use mathlib.Core.Bool.{Bool, true, false, cond, not, _&&_}
+use mathlib.Core.Bool.{Bool, true, false, cond, not, _&&_, _||_}
 use mathlib.Core.List.{List, [], _∷_, foldl}
 use Prim.Native.Nat.{ℕ, _+_, _*_, _^_, _<_, _≤_}
 use native.Mathlib.Nat.{mod-lt}
 use native.Mathlib.Omega.{arith}
-use borrow.Author.Tests.{ltb-true, eqb-true, eqb-false, lt-ltb, not-true, not-false}
+use borrow.Author.Tests.{ltb-true, ltb-false, eqb-true, eqb-false, lt-ltb, not-true, not-false}
 use lib.Dec.{ltb, eqb}
 use lib.IntN.{ℤ}
 use lib.Pow.{pow-pos}
 use lib.ListN.{length, getD}
 use Rattle.algebra.specs.Test.{allBelow}
-use Rattle.algebra.proofs.Booleans.{and-left, and-right, and-both}
+use Rattle.algebra.proofs.Booleans.{and-left, and-right, and-both, neither}
 use Rattle.words.specs.Bytes.{field}
 use Rattle.run.specs.Refusal.{answer}
 use Rattle.run.specs.Run.{Limits, inRange, isTicket}
@@ -22,7 +22,7 @@ use Rattle.ledger.specs.Ledger.{View, viewOf, fresh}
 use Rattle.ledger.specs.Plain.{Plain, Entry, plainView, encode, admit, including, opened}
 use Rattle.ledger.specs.Calls.{ticketRefusal, ticketAnswer, ticketBytes}
 use Rattle.ledger.proofs.Image.{Good, including-else, view-encode, enter-encode, fresh-encode}
-use Rattle.sheet.specs.Sheet.{every, allTickets, key, sheetLength, sheetPos, sheetBlocks, sheetCount, entries, ascending, wellFormed}
+use Rattle.sheet.specs.Sheet.{every, allTickets, key, sheetLength, sheetMost, sheetPos, sheetBlocks, sheetCount, entries, ascending, wellFormed}
 use Rattle.sheet.specs.Calls.{sheetRefusal, sheetAnswer, sheetBytes, enterEntry}
 use Rattle.sheet.specs.Posts.{Post, ticket, sheet, postRefusal, postEntries, postBytes, postAnswer, plainAnswer, plainPost, postsBytes, postsAnswers, plainPosts, plainAnswers}
 
@@ -116,8 +116,47 @@ unfolding wellFormed
 formed b h = and-right
     (eqb (length b) (sheetLength (sheetCount b)) && eqb (field b 12 4) 0 && allBelow (sheetCount b) (λ i. eqb (getD b (17 + 4 * i) 0) 0)) (ascending (entries b)) h
 
+-- a sheet
+pub record SheetTaken (lim : Limits) (v : View) (b : List ℕ) : Type 0 where
+  pub sized : v .sized ≡ true
+  pub size-low : 16 ≤ length b
+  pub size-high : length b ≤ sheetMost lim
+  pub range : inRange lim (sheetPos b) (sheetBlocks b) ≡ true
+  pub well-formed : wellFormed b ≡ true
+  pub tickets : allTickets lim (sheetBlocks b) (entries b) ≡ true
+  pub ordered : v .ordered ≡ true
+  pub same-p : sheetPos b ≡ v .p
+  pub same-C : sheetBlocks b ≡ v .C
+  pub new : every (λ t. not (v .marked (t .row) (t .block))) (entries b) ≡ true
+
+pub sheet-taken : (lim : Limits) (v : View) (b : List ℕ) → sheetRefusal lim v b ≡ 0 → SheetTaken lim v b
+unfolding sheetRefusal
+sheet-taken lim v b e =
+    let e₁ = passes 0 _ _ e in
+    let e₂ = passes 1 _ _ (e₁ .1) in
+    let e₃ = passes 2 _ _ (e₂ .1) in
+    let e₄ = passes 3 _ _ (e₃ .1) in
+    let e₅ = passes 4 _ _ (e₄ .1) in
+    let e₆ = passes 5 _ _ (e₅ .1) in
+    let e₇ = passes 6 _ _ (e₆ .1) in
+    let sizes = neither (not (v .sized) || ltb (length b) 16) (ltb (sheetMost lim) (length b)) (e₁ .0) in
+    let low = neither (not (v .sized)) (ltb (length b) 16) (sizes .0) in
+    let run = not-false (eqb (sheetPos b) (v .p) && eqb (sheetBlocks b) (v .C)) (e₆ .0) in
+    record {
+      sized = not-false _ (low .0);
+      size-low = ltb-false (length b) 16 (low .1);
+      size-high = ltb-false (sheetMost lim) (length b) (sizes .1);
+      range = not-false _ (e₂ .0);
+      well-formed = not-false _ (e₃ .0);
+      tickets = not-false _ (e₄ .0);
+      ordered = not-false _ (e₅ .0);
+      same-p = eqb-true _ _ (and-left (eqb (sheetPos b) (v .p)) _ run);
+      same-C = eqb-true _ _ (and-right (eqb (sheetPos b) (v .p)) _ run);
+      new = not-false _ (e₇ .0);
+    }
+
 pub post-ready : (lim : Limits) (s : Plain) (a : Post) → postRefusal lim (plainView s) a ≡ 0 → Ready lim s (postEntries a)
-unfolding postRefusal ticketRefusal sheetRefusal plainView postEntries
+unfolding postRefusal ticketRefusal plainView postEntries
 post-ready lim s (ticket p C row block sum) e =
     let e₁ = passes 0 _ _ e in
     let e₂ = passes 1 _ _ (e₁ .1) in
@@ -128,16 +167,8 @@ post-ready lim s (ticket p C row block sum) e =
     let c = eqb-true C (s .C) (and-right (eqb p (s .p)) (eqb C (s .C)) (not-false _ (e₆ .0))) in
     (subst (λ (n : ℕ). isTicket lim n row block ≡ true) c (not-false _ (e₄ .0)), e₇ .0, tt)
 post-ready lim s (sheet b) e =
-    let e₁ = passes 0 _ _ e in
-    let e₂ = passes 1 _ _ (e₁ .1) in
-    let e₃ = passes 2 _ _ (e₂ .1) in
-    let e₄ = passes 3 _ _ (e₃ .1) in
-    let e₅ = passes 4 _ _ (e₄ .1) in
-    let e₆ = passes 5 _ _ (e₅ .1) in
-    let e₇ = passes 6 _ _ (e₆ .1) in
-    let c = eqb-true (sheetBlocks b) (s .C) (and-right (eqb (sheetPos b) (s .p)) (eqb (sheetBlocks b) (s .C)) (not-false _ (e₆ .0))) in
-    ready lim s (entries b) (subst (λ (n : ℕ). allTickets lim n (entries b) ≡ true) c (not-false _ (e₄ .0)))
-    (not-false _ (e₇ .0)) (formed b (not-false _ (e₃ .0)))
+    let t = sheet-taken lim (plainView s) b e in
+    ready lim s (entries b) (subst (λ (n : ℕ). allTickets lim n (entries b) ≡ true) (t .same-C) (t .tickets)) (t .new) (formed b (t .well-formed))
 
 -- ---- one post: both calls test the same table, and put in the tickets that the post names
 
@@ -166,14 +197,14 @@ step lim s a g = rw (post-bytes lim (encode lim s) a, view-encode lim s g) (go (
 -- ---- a list of posts
 
 module _ (lim : Limits) where
-  posts-ledger : (s : Plain) (posts : List Post) → Good lim s → postsBytes lim (encode lim s) posts ≡ encode lim (plainPosts lim s posts)
+  pub posts-ledger : (s : Plain) (posts : List Post) → Good lim s → postsBytes lim (encode lim s) posts ≡ encode lim (plainPosts lim s posts)
   unfolding postsBytes plainPosts
   posts-ledger s [] g = refl
   posts-ledger s (a ∷ posts) g =
       let h = step lim s a g in
       ap (λ (l : List ℕ). postsBytes lim l posts) (h .0) ∙ posts-ledger (plainPost lim s a) posts (h .1)
 
-  posts-answers : (s : Plain) (posts : List Post) → Good lim s → postsAnswers lim (encode lim s) posts ≡ plainAnswers lim s posts
+  pub posts-answers : (s : Plain) (posts : List Post) → Good lim s → postsAnswers lim (encode lim s) posts ≡ plainAnswers lim s posts
   unfolding postsAnswers plainAnswers plainAnswer
   posts-answers s [] g = refl
   posts-answers s (a ∷ posts) g =

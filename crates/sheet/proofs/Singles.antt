@@ -1,28 +1,28 @@
--- Posting a sheet equals posting its tickets one by one, in order: where the sheet is taken, each of these posts is taken too.
+-- Posting a sheet equals posting its tickets one by one, in order, on any ledger: where the sheet is taken, each of these posts is taken
+-- too, and the same bytes are left.
 -- Assumes nothing.
-use mathlib.Core.Path.{_≡_, refl, ap, ap₂, _∙_}
+use mathlib.Core.Path.{_≡_, refl, sym, ap, ap₂, _∙_, subst}
 use mathlib.Core.Bool.{true, false}
 use mathlib.Core.List.{List, [], _∷_, foldl}
-use Prim.Native.Nat.{ℕ, _<_}
-use borrow.Author.Tests.{eq-eqb}
+use Prim.Native.Nat.{ℕ, zero, suc, _+_, _*_, _^_, _<_}
+use borrow.Author.Tests.{eq-eqb, eqb-true}
 use lib.IntN.{ℤ, pos}
 use lib.ListN.{length, replicate}
-use Rattle.words.specs.Bytes.{bytesOf}
-use Rattle.words.proofs.Bytes.{length-bytes, value-bytes}
+use Rattle.words.specs.Bytes.{bytesOf, AllBytes}
+use Rattle.words.proofs.Bytes.{length-bytes, value-bytes, field-lt}
 use Rattle.series.specs.Series.{modulus}
 use Rattle.run.specs.Refusal.{refusal, answer}
 use Rattle.run.specs.Run.{Limits, isTicket}
-use Rattle.ledger.specs.Plain.{Plain, Entry, plainView, admit}
+use Rattle.run.proofs.Answering as answering
+use Rattle.ledger.specs.Ledger.{View, viewOf, ledgerSize, posIn, blocksIn}
+use Rattle.ledger.specs.Plain.{Plain, Entry, plainView, admit, encode, decode}
 use Rattle.ledger.specs.Calls.{ticketRefusal}
-use Rattle.ledger.proofs.Image.{Good}
-use Rattle.sheet.specs.Sheet.{entries}
-use Rattle.sheet.specs.Posts.{Post, ticket, sheet, postRefusal, postEntries, plainAnswer, plainPost, plainPosts, plainAnswers}
-use Rattle.sheet.proofs.Simulation.{Ready, good-admit, post-ready}
-
--- a post of one ticket for each entry
-unfoldable pub singles : ℕ → ℕ → List Entry → List Post
-singles p C [] = []
-singles p C (t ∷ ts) = ticket p C (t .row) (t .block) (bytesOf 16 (t .sum)) ∷ singles p C ts
+use Rattle.ledger.proofs.Image.{Good, view-encode}
+use Rattle.ledger.proofs.Decode.{encode-decode, good-decode}
+use Rattle.sheet.specs.Sheet.{sheetCount, sheetBlocks, sumIn, entriesFrom, entries}
+use Rattle.sheet.specs.Calls.{sheetRefusal, sheetAnswer, sheetBytes}
+use Rattle.sheet.specs.Posts.{ticket, sheet, postRefusal, postEntries, postBytes, plainAnswer, plainPost, postsBytes, postsAnswers, plainPosts, plainAnswers, singles, OneByOne}
+use Rattle.sheet.proofs.Simulation.{Ready, good-admit, post-ready, sheet-taken, step, posts-ledger, posts-answers}
 
 -- a single post of a ticket of the run, with its p and C and a sum of 16 bytes, is refused only where the ticket is in the set
 pub not-refused : (lim : Limits) (s : Plain) (q D row block : ℕ) (x : List ℕ) → Good lim s → q ≡ s .p → D ≡ s .C → length x ≡ 16
@@ -31,10 +31,15 @@ unfolding postRefusal ticketRefusal plainView refusal
 not-refused lim s q D row block x g eq eD l h new =
     rw (eq, eD, l, g .range, h, eq-eqb (s .p) (s .p) refl, eq-eqb (s .C) (s .C) refl, new) refl
 
--- every sum fits its 16 bytes
-abbrev pub SumsFit : List Entry → Type 0
+-- every sum fits its 16 bytes, as the sums of a sheet do
+abbrev SumsFit : List Entry → Type 0
 SumsFit [] = Unit {0}
 SumsFit (t ∷ ts) = (t .sum < modulus) × SumsFit ts
+
+sums-fit : (s : List ℕ) → AllBytes s → (n i : ℕ) → SumsFit (entriesFrom s i n)
+unfolding entriesFrom sumIn
+sums-fit s h zero i = tt
+sums-fit s h (suc n) i = (field-lt s (16 + 4 * sheetCount s + 16 * i) 16 h, sums-fit s h n (suc i))
 
 module _ (lim : Limits) where
   one-taken : (s : Plain) (t : Entry) → Good lim s → isTicket lim (s .C) (t .row) (t .block) ≡ true → s .tickets (t .row) (t .block) ≡ false
@@ -63,10 +68,40 @@ module _ (lim : Limits) where
             (ap (λ (x : Plain). plainAnswers lim x (singles (s .p) (s .C) ts)) here ∙ rest .1),
       )
 
-  pub sheet-as-singles : (s : Plain) (b : List ℕ) → Good lim s → SumsFit (entries b) → postRefusal lim (plainView s) (sheet b) ≡ 0
+  -- a sheet that the plain ledger takes
+  plain-singles : (s : Plain) (b : List ℕ) → Good lim s → AllBytes b → postRefusal lim (plainView s) (sheet b) ≡ 0
       → (plainPosts lim s (singles (s .p) (s .C) (entries b)) ≡ plainPost lim s (sheet b))
       × (plainAnswers lim s (singles (s .p) (s .C) (entries b)) ≡ replicate (length (entries b)) (pos 0))
-  unfolding plainPost postEntries
-  sheet-as-singles s b g f e =
-      let a = all-taken s (entries b) g (post-ready lim s (sheet b) e) f in
+  unfolding plainPost postEntries entries
+  plain-singles s b g h e =
+      let a = all-taken s (entries b) g (post-ready lim s (sheet b) e) (sums-fit b h (sheetCount b) 0) in
       (rw e (a .0), a .1)
+
+  -- on the bytes of a plain ledger
+  encoded-singles : (s : Plain) (b : List ℕ) → Good lim s → AllBytes b → sheetRefusal lim (plainView s) b ≡ 0
+      → (postsBytes lim (encode lim s) (singles (s .p) (s .C) (entries b)) ≡ sheetBytes lim (encode lim s) b)
+      × (postsAnswers lim (encode lim s) (singles (s .p) (s .C) (entries b)) ≡ replicate (length (entries b)) (pos 0))
+  unfolding postRefusal postBytes
+  encoded-singles s b g h e =
+      let a = plain-singles s b g h e in
+      let posts = singles (s .p) (s .C) (entries b) in
+      (posts-ledger lim s posts g ∙ ap (encode lim) (a .0) ∙ sym (step lim s (sheet b) g .0), posts-answers lim s posts g ∙ a .1)
+
+-- a ledger that takes a sheet has its size and is in order, so it holds a plain ledger
+pub sheet-as-singles : (lim : Limits) → lim .last < 2 ^ 64 → OneByOne lim
+unfolding sheetAnswer viewOf decode
+sheet-as-singles lim fits ledger b bytes sheet-bytes e =
+    let taken = answering.not-refused _ 0 0 e .0 in
+    let t = sheet-taken lim (viewOf lim ledger) b taken in
+    let sized = eqb-true (length ledger) (ledgerSize lim) (t .sized) in
+    let s = decode lim ledger in
+    let g = good-decode lim ledger bytes sized (t .ordered) fits in
+    let held = encode-decode lim ledger bytes sized (t .ordered) in
+    let seen : viewOf lim ledger ≡ plainView s = ap (viewOf lim) (sym held) ∙ view-encode lim s g in
+    let P : List ℕ → ℕ → ℕ → Type 0 =
+    (λ l p C. (postsBytes lim l (singles p C (entries b)) ≡ sheetBytes lim l b)
+    × (postsAnswers lim l (singles p C (entries b)) ≡ replicate (length (entries b)) (pos 0))) in
+    subst (λ (p : ℕ). P ledger p (sheetBlocks b)) (sym (t .same-p))
+    (subst (λ (C : ℕ). P ledger (posIn ledger) C) (sym (t .same-C))
+    (subst (λ (l : List ℕ). P l (posIn ledger) (blocksIn ledger)) held
+    (encoded-singles lim s b g sheet-bytes (ap (λ (v : View). sheetRefusal lim v b) (sym seen) ∙ taken))))

@@ -1,18 +1,19 @@
 -- Lists of posts of both kinds, on the bytes and on the plain ledger: what they leave and what they answer, and where a ticket
 -- occurs in them. Document 01, "The ledger".
+use mathlib.Core.Path.{_≡_}
 use mathlib.Core.Bool.{Bool, false, cond, _&&_, _||_}
 use mathlib.Core.List.{List, [], _∷_, _++_, foldl}
 use Prim.Native.Nat.{ℕ}
 use lib.Dec.{eqb}
-use lib.IntN.{ℤ}
-use lib.ListN.{length}
-use Rattle.words.specs.Bytes.{valueOf}
+use lib.IntN.{ℤ, pos}
+use lib.ListN.{length, replicate}
+use Rattle.words.specs.Bytes.{bytesOf, valueOf, AllBytes}
 use Rattle.run.specs.Refusal.{answer}
 use Rattle.run.specs.Run.{Limits}
 use Rattle.ledger.specs.Ledger.{View}
 use Rattle.ledger.specs.Plain.{Entry, Plain, plainView, admit, isOf}
 use Rattle.ledger.specs.Calls.{ticketRefusal, ticketAnswer, ticketBytes}
-use Rattle.sheet.specs.Sheet.{entries}
+use Rattle.sheet.specs.Sheet.{sheetPos, sheetBlocks, entries}
 use Rattle.sheet.specs.Calls.{sheetRefusal, sheetAnswer, sheetBytes}
 
 -- A post, by its arguments beside the ledger: p, C, row, block and the bytes of a sum; or the bytes of a sheet.
@@ -64,6 +65,20 @@ plainPosts lim s (a ∷ posts) = plainPosts lim (plainPost lim s a) posts
 unfoldable pub plainAnswers : Limits → Plain → List Post → List ℤ
 plainAnswers lim s [] = []
 plainAnswers lim s (a ∷ posts) = plainAnswer lim s a ∷ plainAnswers lim (plainPost lim s a) posts
+
+-- ---- a sheet as posts of its tickets one by one
+
+unfoldable pub singles : ℕ → ℕ → List Entry → List Post
+singles p C [] = []
+singles p C (t ∷ ts) = ticket p C (t .row) (t .block) (bytesOf 16 (t .sum)) ∷ singles p C ts
+
+-- Posting a sheet that the ledger takes leaves the bytes that posting its tickets one by one, in order, leaves; each of these posts is
+-- answered 0.
+abbrev pub OneByOne : Limits → Type 0
+OneByOne lim =
+    (ledger s : List ℕ) → AllBytes ledger → AllBytes s → sheetAnswer lim ledger s ≡ pos 0
+    → (postsBytes lim ledger (singles (sheetPos s) (sheetBlocks s) (entries s)) ≡ sheetBytes lim ledger s)
+    × (postsAnswers lim ledger (singles (sheetPos s) (sheetBlocks s) (entries s)) ≡ replicate (length (entries s)) (pos 0))
 
 -- ---- where a ticket occurs
 

@@ -4,7 +4,7 @@ use mathlib.Core.Path.{_≡_, refl, sym, ap, ap₂, _∙_}
 use mathlib.Core.Bool.{Bool, true, false}
 use mathlib.Core.List.{List, [], _∷_, _++_, append-nil, append-assoc}
 use Prim.Native.Nat.{ℕ, zero, suc, _+_, _*_, _-_, _/_, _%_, _^_, _<_, _≤_}
-use native.Mathlib.Nat.{div-div-eq-div-mul, div-one, le-of-suc-le-suc, not-suc-le-zero, pow-zero, pow-succ', zero-add, add-mul-div-left, div-eq-of-lt}
+use native.Mathlib.Nat.{pow-le-pow-right, div-div-eq-div-mul, div-one, le-of-suc-le-suc, not-suc-le-zero, pow-zero, pow-succ', zero-add, add-mul-div-left, div-eq-of-lt}
 use native.Mathlib.Numerals.{add-one}
 use native.Mathlib.Omega.{arith}
 use borrow.Author.Tests.{ltb-true, ltb-false}
@@ -108,6 +108,10 @@ part-bytes s at w h i = go (ltb i w) refl
 pub length-part : (s : List ℕ) (at w : ℕ) → at + w ≤ length s → length (take w (drop at s)) ≡ w
 length-part s at w h = omega (arith, length-take w (drop at s), length-drop at s)
 
+-- two neighbouring parts
+pub part-join : (s : List ℕ) (at v w : ℕ) → take v (drop at s) ++ take w (drop (at + v) s) ≡ take (v + w) (drop at s)
+part-join s at v w = sym (take-add v w (drop at s) ∙ ap (λ (x : List ℕ). take v (drop at s) ++ take w x) (drop-drop v at s))
+
 -- a field written again
 pub field-again : (s : List ℕ) (at w : ℕ) → AllBytes s → at + w ≤ length s → bytesOf w (field s at w) ≡ take w (drop at s)
 unfolding field
@@ -115,9 +119,14 @@ field-again s at w h l =
     ap (λ (n : ℕ). bytesOf n (valueOf (take w (drop at s)))) (sym (length-part s at w l))
     ∙ bytes-value (take w (drop at s)) (part-bytes s at w h)
 
-pub field-lt : (s : List ℕ) (at w : ℕ) → AllBytes s → at + w ≤ length s → field s at w < 256 ^ w
+-- a field's number fits its width, also where the bytes end before the field does
+pub field-lt : (s : List ℕ) (at w : ℕ) → AllBytes s → field s at w < 256 ^ w
 unfolding field
-field-lt s at w h l = rw (length-part s at w l) at (value-lt (take w (drop at s)) (part-bytes s at w h))
+field-lt s at w h =
+    let l = value-lt (take w (drop at s)) (part-bytes s at w h) in
+    let n : length (take w (drop at s)) ≤ w = omega (arith, length-take w (drop at s)) in
+    let m = pow-le-pow-right {n = 256} (omega arith) n in
+    omega (arith, l, m)
 
 -- a field of v + w bytes is one of v and one of w above it
 pub field-add : (s : List ℕ) (at v w : ℕ) → at + v ≤ length s → field s at (v + w) ≡ field s at v + 256 ^ v * field s (at + v) w

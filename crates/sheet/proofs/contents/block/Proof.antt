@@ -22,7 +22,7 @@ get-requires c κs = search needs
 returns : tie.Need-returns
 unfolding blockIn AllBytes
 returns c =
-    let low = field-lt (now (c .before .before .args .s)) (18 + 4 * c .before .before .args .i) 2 (λ i. c .before .shared-slice-known .given i .fits) (omega arith) in
+    let low = field-lt (now (c .before .before .args .s)) (18 + 4 * c .before .before .args .i) 2 (λ i. c .before .shared-slice-known .given i .fits) in
     (c .get .ensures, omega (arith, low))
 
 pub block-spec : {M : Type 1} → statement M

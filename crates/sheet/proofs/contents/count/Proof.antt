@@ -15,7 +15,7 @@ get-requires c κs = search needs
 returns : tie.Need-returns
 unfolding sheetCount AllBytes
 returns c =
-    let low = field-lt (now (c .before .before .args .s)) 10 2 (λ i. c .before .shared-slice-known .given i .fits) (omega arith) in
+    let low = field-lt (now (c .before .before .args .s)) 10 2 (λ i. c .before .shared-slice-known .given i .fits) in
     (c .get .ensures, omega (arith, low))
 
 pub count-spec : {M : Type 1} → statement M
