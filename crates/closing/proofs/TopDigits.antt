@@ -114,7 +114,7 @@ shared-is L H zero h s n =
     sym (none-settled (pos L) (pos H) (λ e t.
     let o = t .0 in n (omega arith) (settles-share L H 1 (fewer (pos L) (pos H) e 1 t (omega arith) (omega arith)))))
 shared-is L H (suc d) h s n =
-    sym (greatest (pos L) (pos H) (suc d) (omega arith, h, ap pos s) (λ e t. within e t (ltb (suc d) e) refl))
+    sym (greatest (pos L) (pos H) (suc d) (record { settles = (omega arith, h, ap pos s); most = λ e t. within e t (ltb (suc d) e) refl }))
   where
     within : (e : ℕ) → Settles (pos L) (pos H) e → (b : Bool) → ltb (suc d) e ≡ b → e ≤ suc d
     within e t true f =

@@ -12,7 +12,7 @@ use lib.Pow.{pow-add}
 use Rattle.algebra.specs.Whole.{quotient, sameℤ}
 use Rattle.algebra.proofs.Booleans.{below-or}
 use Rattle.series.specs.Series.{modulus}
-use Rattle.interval.specs.Interval.{Settles, unitAt}
+use Rattle.interval.specs.Interval.{Settles, Greatest, NoneSettled, OneOutcome, unitAt}
 use Rattle.interval.specs.Digits.{settledUpTo, settled}
 use Rattle.interval.proofs.Tail.{pow-step}
 
@@ -66,23 +66,31 @@ module _ (lo hi : ℤ) where
           → e ≤ cond (sameℤ (quotient lo (unitAt (suc n))) (quotient hi (unitAt (suc n)))) (suc n) (settledUpTo lo hi n)
       top k = rw (eq-same _ _ (subst (λ (d : ℕ). quotient lo (unitAt d) ≡ quotient hi (unitAt d)) k s)) (omega arith)
 
-  pub greatest : (d : ℕ) → Settles lo hi d → ((e : ℕ) → Settles lo hi e → e ≤ d) → settled lo hi ≡ d
-  unfolding settled Settles Same
-  greatest d s above =
-      let l = reaches 32 d (s .0) (s .1) (s .2) in
-      ⊎-elim (λ z. absurd (let h = s .0 in omega (arith, z, l, h))) (λ r. let u = above _ r in omega (arith, l, u)) (found 32 (omega arith))
-
   pub at-most : (d : ℕ) → Settles lo hi d → d ≤ settled lo hi
   unfolding settled Settles Same
   at-most d s = reaches 32 d (s .0) (s .1) (s .2)
 
-  pub settled-none : settled lo hi ≡ 0 → (d : ℕ) → Settles lo hi d → ⊥
+  pub greatest : (d : ℕ) → Greatest lo hi d → settled lo hi ≡ d
+  unfolding settled Settles
+  greatest d g =
+      let l = at-most d (g .settles) in
+      ⊎-elim (λ z. absurd (let h = g .settles .0 in omega (arith, z, l, h))) (λ r. let u = g .most _ r in omega (arith, l, u)) (found 32 (omega arith))
+
+  pub settled-none : settled lo hi ≡ 0 → NoneSettled lo hi
   unfolding Settles
   settled-none z d s = let l = at-most d s in let h = s .0 in omega (arith, z, l, h)
 
-  pub none-settled : ((d : ℕ) → Settles lo hi d → ⊥) → settled lo hi ≡ 0
+  pub none-settled : NoneSettled lo hi → settled lo hi ≡ 0
   unfolding settled
   none-settled n = ⊎-elim (λ z. z) (λ r. absurd (n _ r)) (found 32 (omega arith))
+
+  pub one-outcome : OneOutcome lo hi
+  unfolding settled
+  one-outcome = record {
+    either = ⊎-elim (λ z. inr (settled-none z)) (λ r. inl (settled lo hi, record { settles = r; most = at-most })) (found 32 (omega arith));
+    not-both = λ d g n. n d (g .settles);
+    one-d = λ d e g h. sym (greatest d g) ∙ greatest e h;
+  }
 
 -- ---- sharing at d gives sharing at every smaller d
 

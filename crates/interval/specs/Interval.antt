@@ -1,6 +1,7 @@
 -- The interval around a total in which the exact sum lies, and the digits that it settles. Document 01, "Closing".
 use mathlib.Core.Path.{_≡_}
 use mathlib.Core.Bool.{Bool, true, cond}
+use mathlib.Core.Logic.{_⊎_}
 use mathlib.Core.List.{List·Memᴰ}
 use Prim.Native.Nat.{ℕ, _+_, _*_, _-_, _/_, _%_, _^_, _≤_, _<_}
 use lib.Dec.{eqb}
@@ -67,3 +68,18 @@ unitAt d = 2 ^ (128 - 4 * d)
 -- lo and hi have the same quotient by 2 ^ (128 - 4 d), rounded down: the distance between them settles d digits
 unfoldable pub Settles : ℤ → ℤ → ℕ → Type 0
 Settles lo hi d = (1 ≤ d) × (d ≤ 32) × (quotient lo (unitAt d) ≡ quotient hi (unitAt d))
+
+-- d is the greatest number of digits that the distance settles
+pub record Greatest (lo hi : ℤ) (d : ℕ) : Type 0 where
+  pub settles : Settles lo hi d
+  pub most : (e : ℕ) → Settles lo hi e → e ≤ d
+
+-- it settles none
+abbrev pub NoneSettled : ℤ → ℤ → Type 0
+NoneSettled lo hi = (d : ℕ) → Settles lo hi d → ⊥
+
+-- Exactly one of the two comes about, and for one d only.
+pub record OneOutcome (lo hi : ℤ) : Type 0 where
+  pub either : ((d : ℕ) × Greatest lo hi d) ⊎ NoneSettled lo hi
+  pub not-both : (d : ℕ) → Greatest lo hi d → NoneSettled lo hi → ⊥
+  pub one-d : (d e : ℕ) → Greatest lo hi d → Greatest lo hi e → d ≡ e

@@ -1,6 +1,6 @@
 -- What the writer writes, the reader takes and gives back; and an accepted sheet with right sums is what the writer writes.
 -- Assumes nothing.
-use mathlib.Core.Path.{_≡_, refl, sym, ap, ap₂, _∙_}
+use mathlib.Core.Path.{_≡_, refl, sym, ap, ap₂, _∙_, subst}
 use mathlib.Core.Bool.{Bool, true, false, _&&_, _||_}
 use mathlib.Core.List.{List, [], _∷_, _++_, List·Memᴰ, List·Memᴰ·head, List·Memᴰ·tail}
 use Prim.Native.Nat.{ℕ, zero, suc, _+_, _*_, _/_, _%_, _^_, _<_, _≤_}
@@ -9,9 +9,9 @@ use native.Mathlib.Omega.{arith}
 use borrow.Author.Tests.{ltb-false, eqb-true, eqb-false, le-ltb, eq-eqb, ne-eqb, not-false}
 use lib.Dec.{ltb, eqb}
 use lib.IntN.{pos}
-use lib.ListN.{length, getD, length-append}
+use lib.ListN.{length, getD, take, drop, length-append}
 use lib.Pow.{pow-pos}
-use lib.Seq.{getD-drop, take-at}
+use lib.Seq.{getD-drop, take-at, drop-at}
 use Rattle.algebra.specs.Test.{allBelow}
 use Rattle.algebra.proofs.Booleans.{and-left, and-right, neither}
 use Rattle.algebra.proofs.Below.{all-true, all-at}
@@ -20,13 +20,14 @@ use Rattle.words.specs.Bytes.{bytesOf, valueOf, field, AllBytes}
 use Rattle.series.specs.Series.{Formula, rowCount, modulus, rangeSum}
 use Rattle.run.specs.Refusal.{refusal, answer}
 use Rattle.run.specs.Run.{Limits, limitsOf, inRange, isTicket, ticketSum}
+use Rattle.run.proofs.Answering as answering
 use Rattle.run.proofs.Answering.{passes}
 use Rattle.run.proofs.Range.{range-of, ticket-row, ticket-block}
-use Rattle.ledger.specs.Ledger.{View}
+use Rattle.ledger.specs.Ledger.{View, viewOf}
 use Rattle.ledger.specs.Plain.{Entry}
 use Rattle.sheet.specs.Sheet.{sheetLength, sheetMost, listMost, sheetPos, sheetBlocks, sheetCount, entries, every, allTickets, key, ascending, wellFormed, contentsOf, bodiesOf, sheetOf, listOf, listed}
-use Rattle.sheet.specs.Calls.{over, writeRefusal, writeAnswer, writeBytes, readRefusal, readAnswer, readList, readSums, sheetRefusal}
-use Rattle.sheet.specs.RoundTrip.{Fits, written, ReadsBack, WrittenReadsBack, Accepted, RightSums, AcceptedIsWritten}
+use Rattle.sheet.specs.Calls.{over, writeRefusal, writeAnswer, writeBytes, readRefusal, readAnswer, readList, readSums, sheetRefusal, sheetAnswer}
+use Rattle.sheet.specs.RoundTrip.{Fits, ReadsBack, WrittenReadsBack, Accepted, by-reading, by-posting, RightSums, AcceptedIsWritten}
 use Rattle.sheet.proofs.Simulation.{formed, sheet-taken}
 use Rattle.sheet.proofs.Many.{count-entries, count-listed}
 use Rattle.sheet.proofs.Sheets.{Fitting, pos-read, blocks-read, count-read, entries-read, sheet-again, length-contents}
@@ -195,13 +196,6 @@ module _ (F : Formula) (fits : Fits F) (p C : ℕ) (list out list′ sums′ : L
   unfolding ts
   count = count-listed F p C list
 
-  written-is : written F p C list out ≡ s
-  unfolding writeBytes s ts
-  written-is =
-      rw (of-taken F p C list out t)
-      (take-at (sheetOf p C (listed F p C list)) _ (sheetLength (length list / 2))
-      (length-sheet p C (listed F p C list) ∙ ap sheetLength (count-listed F p C list)))
-
   p-fits : p < 2 ^ 64
   p-fits = let r = range-of (limitsOf F) p C (t .range) in let n = fits .near in let h = r .p-high in omega (arith, h, n)
 
@@ -247,23 +241,42 @@ module _ (F : Formula) (fits : Fits F) (p C : ℕ) (list out list′ sums′ : L
         t .tickets,
       ) refl
 
-  reads-back : ReadsBack F p C list out list′ sums′
+  reads-back : ReadsBack F p C list (sheetOf p C (listed F p C list)) list′ sums′
   unfolding readAnswer readList readSums answer ts s
   reads-back = record {
-    count = rw (written-is, not-refused, count-is) refl;
-    list-is = rw (written-is, not-refused, entries-are, list-again F p C list bytes (t .even)) refl;
-    sums-are = rw (written-is, not-refused, entries-are) refl;
-    pos-is = rw written-is (pos-read p C ts p-fits C-fits few entries-fit);
-    blocks-are = rw written-is (blocks-read p C ts p-fits C-fits few entries-fit);
+    count = rw (not-refused, count-is) refl;
+    list-is = rw (not-refused, entries-are, list-again F p C list bytes (t .even)) refl;
+    sums-are = rw (not-refused, entries-are) refl;
+    pos-is = pos-read p C ts p-fits C-fits few entries-fit;
+    blocks-are = blocks-read p C ts p-fits C-fits few entries-fit;
   }
 
 pub written-reads-back : (F : Formula) → Fits F → WrittenReadsBack F
-written-reads-back F fits p C list out list′ sums′ bytes e a b =
-    reads-back F fits p C list out list′ sums′ bytes (taken-of F p C list out e) a b
+unfolding writeAnswer writeBytes
+written-reads-back F fits p C list out bytes n e =
+    let z = answering.not-refused (writeRefusal F p C list out) (sheetLength (length list / 2)) n e in
+    let s = sheetOf p C (listed F p C list) in
+    let l : length s ≡ n = length-sheet p C (listed F p C list) ∙ ap sheetLength (count-listed F p C list) ∙ z .1 in
+    let bytes-are : writeBytes F p C list out ≡ over s out = rw (z .0) refl in
+    record {
+      length-is = sym (z .1);
+      rest = ap (drop n) bytes-are ∙ drop-at s (drop (length s) out) n l ∙ ap (λ (k : ℕ). drop k out) l;
+      reads-back = λ list′ sums′ a b.
+          subst (λ (x : List ℕ). ReadsBack F p C list x list′ sums′) (sym (ap (take n) bytes-are ∙ take-at s (drop (length s) out) n l))
+          (reads-back F fits p C list out list′ sums′ bytes (taken-of F p C list out (z .0)) a b);
+    }
 
 -- ---- accepted, then written
 
-module _ (F : Formula) (fits : Fits F) (s out : List ℕ) (bytes : AllBytes s) (acc : Accepted (limitsOf F) s) (right : RightSums F s)
+-- what the reader and a post have both tested: refusals 1 to 4 do not apply to the bytes of the sheet
+record Passed (lim : Limits) (s : List ℕ) : Type 0 where
+  size-low : 16 ≤ length s
+  size-high : length s ≤ sheetMost lim
+  range : inRange lim (sheetPos s) (sheetBlocks s) ≡ true
+  formed : wellFormed s ≡ true
+  tickets : allTickets lim (sheetBlocks s) (entries s) ≡ true
+
+module _ (F : Formula) (fits : Fits F) (s out : List ℕ) (bytes : AllBytes s) (acc : Passed (limitsOf F) s) (right : RightSums F s)
     (room : length s ≤ length out) where
   tested : Bool
   tested =
@@ -323,14 +336,11 @@ module _ (F : Formula) (fits : Fits F) (s out : List ℕ) (bytes : AllBytes s) (
     rw (of-taken F (sheetPos s) (sheetBlocks s) (listOf (entries s)) out taken, listed-are, again) refl,
   )
 
-pub accepted-is-written : (F : Formula) → Fits F → AcceptedIsWritten F
-accepted-is-written F fits s out bytes acc right room = is-written F fits s out bytes acc right room
+-- ---- what the reader takes, and what a post takes
 
--- ---- what the reader takes, and what a post of a sheet takes, is accepted
-
-pub read-accepted : (lim : Limits) (s list sums : List ℕ) → readRefusal lim s list sums ≡ 0 → Accepted lim s
+read-passed : (lim : Limits) (s list sums : List ℕ) → readRefusal lim s list sums ≡ 0 → Passed lim s
 unfolding readRefusal
-read-accepted lim s list sums e =
+read-passed lim s list sums e =
     let e₁ = passes 0 _ _ e in
     let e₂ = passes 1 _ _ (e₁ .1) in
     let e₃ = passes 2 _ _ (e₂ .1) in
@@ -346,7 +356,15 @@ read-accepted lim s list sums e =
       tickets = not-false _ (e₄ .0);
     }
 
-pub post-accepted : (lim : Limits) (v : View) (s : List ℕ) → sheetRefusal lim v s ≡ 0 → Accepted lim s
-post-accepted lim v s e =
+post-passed : (lim : Limits) (v : View) (s : List ℕ) → sheetRefusal lim v s ≡ 0 → Passed lim s
+post-passed lim v s e =
     let t = sheet-taken lim v s e in
     record { size-low = t .size-low; size-high = t .size-high; range = t .range; formed = t .well-formed; tickets = t .tickets }
+
+passed : (lim : Limits) (s : List ℕ) → Accepted lim s → Passed lim s
+unfolding readAnswer sheetAnswer
+passed lim s (by-reading list sums e a) = read-passed lim s list sums (answering.not-refused _ _ e a .0)
+passed lim s (by-posting ledger a) = post-passed lim (viewOf lim ledger) s (answering.not-refused _ 0 0 a .0)
+
+pub accepted-is-written : (F : Formula) → Fits F → AcceptedIsWritten F
+accepted-is-written F fits s out bytes acc right room = is-written F fits s out bytes (passed (limitsOf F) s acc) right room

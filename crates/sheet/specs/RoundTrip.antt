@@ -1,53 +1,52 @@
 -- Demand 2, second sentence: a sheet written reads back as the same tickets and sums, and one accepted with right sums is byte for
 -- byte the one written. Both are about the calls' own definitions.
 use mathlib.Core.Path.{_≡_}
-use mathlib.Core.Bool.{true}
 use mathlib.Core.List.{List, List·Memᴰ}
 use Prim.Native.Nat.{ℕ, _*_, _/_, _^_, _≤_, _<_}
 use lib.IntN.{pos}
-use lib.ListN.{length, take}
+use lib.ListN.{length, take, drop}
 use Rattle.words.specs.Bytes.{AllBytes}
 use Rattle.series.specs.Series.{Formula, rowCount}
-use Rattle.run.specs.Run.{Limits, limitsOf, inRange, ticketSum}
+use Rattle.run.specs.Run.{Limits, limitsOf, ticketSum}
 use Rattle.ledger.specs.Plain.{Entry}
-use Rattle.sheet.specs.Sheet.{sheetLength, sheetMost, sheetPos, sheetBlocks, entries, allTickets, wellFormed, bodiesOf, listOf, listed}
-use Rattle.sheet.specs.Calls.{over, writeRefusal, writeAnswer, writeBytes, readAnswer, readList, readSums}
+use Rattle.sheet.specs.Sheet.{sheetLength, sheetPos, sheetBlocks, entries, bodiesOf, listOf, listed}
+use Rattle.sheet.specs.Calls.{over, writeAnswer, writeBytes, readAnswer, readList, readSums, sheetAnswer}
 
 -- rows fit a byte, and positions 8 bytes
 pub record Fits (F : Formula) : Type 0 where
   pub few : rowCount F < 256
   pub near : F .last < 2 ^ 64
 
--- the bytes of the sheet that the writer wrote: as many as it answered
-abbrev pub written : Formula → ℕ → ℕ → List ℕ → List ℕ → List ℕ
-written F p C list out = take (sheetLength (length list / 2)) (writeBytes F p C list out)
+-- The reader takes the sheet s and gives back the list, the sums, p and C.
+pub record ReadsBack (F : Formula) (p C : ℕ) (list s list′ sums′ : List ℕ) : Type 0 where
+  pub count : readAnswer (limitsOf F) s list′ sums′ ≡ pos (length list / 2)
+  pub list-is : readList (limitsOf F) s list′ sums′ ≡ over list list′
+  pub sums-are : readSums (limitsOf F) s list′ sums′ ≡ over (bodiesOf (listed F p C list)) sums′
+  pub pos-is : sheetPos s ≡ p
+  pub blocks-are : sheetBlocks s ≡ C
 
--- The reader takes it and gives back the list, the sums, p and C.
-pub record ReadsBack (F : Formula) (p C : ℕ) (list out list′ sums′ : List ℕ) : Type 0 where
-  pub count : readAnswer (limitsOf F) (written F p C list out) list′ sums′ ≡ pos (length list / 2)
-  pub list-is : readList (limitsOf F) (written F p C list out) list′ sums′ ≡ over list list′
-  pub sums-are : readSums (limitsOf F) (written F p C list out) list′ sums′ ≡ over (bodiesOf (listed F p C list)) sums′
-  pub pos-is : sheetPos (written F p C list out) ≡ p
-  pub blocks-are : sheetBlocks (written F p C list out) ≡ C
+-- The writer answered n: it wrote n bytes, left those past them as found, and the reader takes the n bytes back with any two outputs that
+-- have the room.
+pub record Written (F : Formula) (p C : ℕ) (list out : List ℕ) (n : ℕ) : Type 0 where
+  pub length-is : n ≡ sheetLength (length list / 2)
+  pub rest : drop n (writeBytes F p C list out) ≡ drop n out
+  pub reads-back : (list′ sums′ : List ℕ) → length list ≤ length list′ → 8 * length list ≤ length sums′
+      → ReadsBack F p C list (take n (writeBytes F p C list out)) list′ sums′
 
 abbrev pub WrittenReadsBack : Formula → Type 0
-WrittenReadsBack F =
-    (p C : ℕ) (list out list′ sums′ : List ℕ) → AllBytes list → writeRefusal F p C list out ≡ 0
-    → length list ≤ length list′ → 8 * length list ≤ length sums′ → ReadsBack F p C list out list′ sums′
+WrittenReadsBack F = (p C : ℕ) (list out : List ℕ) → AllBytes list → (n : ℕ) → writeAnswer F p C list out ≡ pos n → Written F p C list out n
 
--- Refusals 1 to 4 do not apply to the bytes of a sheet.
-pub record Accepted (lim : Limits) (s : List ℕ) : Type 0 where
-  pub size-low : 16 ≤ length s
-  pub size-high : length s ≤ sheetMost lim
-  pub range : inRange lim (sheetPos s) (sheetBlocks s) ≡ true
-  pub formed : wellFormed s ≡ true
-  pub tickets : allTickets lim (sheetBlocks s) (entries s) ≡ true
+-- A sheet is accepted where a call takes it: the reader with some outputs, or a post on some ledger.
+pub data Accepted (lim : Limits) (s : List ℕ) : Type 0 where
+  by-reading : (list sums : List ℕ) (e : ℕ) → readAnswer lim s list sums ≡ pos e → Accepted lim s
+  by-posting : (ledger : List ℕ) → sheetAnswer lim ledger s ≡ pos 0 → Accepted lim s
 
 -- each sum is its ticket's
 unfoldable pub RightSums : Formula → List ℕ → Type 0
 RightSums F s =
     (t : Entry) → List·Memᴰ t (entries s) → t .sum ≡ ticketSum F (sheetPos s) (sheetBlocks s) (t .row) (t .block)
 
+-- An accepted sheet with right sums is byte for byte the one that the writer writes of its p, C and list, where the output has the room.
 abbrev pub AcceptedIsWritten : Formula → Type 0
 AcceptedIsWritten F =
     (s out : List ℕ) → AllBytes s → Accepted (limitsOf F) s → RightSums F s → length s ≤ length out
