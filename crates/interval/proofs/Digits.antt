@@ -84,13 +84,21 @@ module _ (lo hi : ℤ) where
   unfolding settled
   none-settled n = ⊎-elim (λ z. z) (λ r. absurd (n _ r)) (found 32 (omega arith))
 
-  pub one-outcome : OneOutcome lo hi
+  -- the number of settled digits, where there are any
+  pub settled-greatest : 0 < settled lo hi → Greatest lo hi (settled lo hi)
   unfolding settled
+  settled-greatest h = record { settles = ⊎-elim (λ z. absurd (omega (arith, z, h))) (λ r. r) (found 32 (omega arith)); most = at-most }
+
+  pub one-outcome : OneOutcome lo hi
   one-outcome = record {
-    either = ⊎-elim (λ z. inr (settled-none z)) (λ r. inl (settled lo hi, record { settles = r; most = at-most })) (found 32 (omega arith));
+    either = go (settled lo hi) refl;
     not-both = λ d g n. n d (g .settles);
     one-d = λ d e g h. sym (greatest d g) ∙ greatest e h;
   }
+    where
+      go : (n : ℕ) → settled lo hi ≡ n → ((d : ℕ) × Greatest lo hi d) ⊎ NoneSettled lo hi
+      go zero e = inr (settled-none e)
+      go (suc n) e = inl (settled lo hi, settled-greatest (omega (arith, e)))
 
 -- ---- sharing at d gives sharing at every smaller d
 

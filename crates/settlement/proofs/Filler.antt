@@ -8,22 +8,16 @@ use Prim.Native.Nat.{ℕ, zero, suc, _+_, _<_}
 use native.Mathlib.Nat.{not-suc-le-zero}
 use borrow.Author.Tests.{eq-eqb}
 use lib.Dec.{eqb}
-use lib.Pow.{pow-pos}
 use Rattle.algebra.proofs.Booleans.{below-or}
-use Rattle.algebra.proofs.Integers.{residue-lt}
 use Rattle.words.specs.Bytes.{bytesOf, valueOf}
 use Rattle.words.proofs.Bytes.{length-bytes, value-bytes}
-use Rattle.series.specs.Series.{Formula, rowCount, modulus, rangeSum}
+use Rattle.series.specs.Series.{Formula, rowCount, modulus}
 use Rattle.run.specs.Run.{limitsOf, ticketSum}
 use Rattle.run.proofs.Range.{ticket-row, ticket-block}
 use Rattle.ledger.specs.Plain.{Plain, Entry, plainView, admit, isOf, opened}
-use Rattle.sheet.specs.Posts.{Post, ticket, postRefusal, postEntries, plainPost, occurring, occurrences, contains}
-use Rattle.sheet.proofs.Singles.{singles}
+use Rattle.sheet.specs.Posts.{Post, ticket, postRefusal, postEntries, plainPost, occurring, occurrences, contains, singles}
 use Rattle.settlement.specs.Settlement.{Filled}
-
-ticket-sum-lt : (F : Formula) (p C row block : ℕ) → ticketSum F p C row block < modulus
-unfolding ticketSum rangeSum
-ticket-sum-lt F p C row block = residue-lt modulus _ (pow-pos 128)
+use Rattle.settlement.proofs.Agreement.{ticket-sum-lt}
 
 -- a post leaves the run as it is
 same-run : (s : Plain) (ts : List Entry) → (foldl admit s ts .p ≡ s .p) × (foldl admit s ts .C ≡ s .C)

@@ -4,3 +4,5 @@ pub mod Filler
 pub mod Theorem
 pub mod Figures
 pub mod FirstDigits
+pub mod Agreement
+pub mod Facts

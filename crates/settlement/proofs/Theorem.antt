@@ -17,7 +17,7 @@ use Rattle.interval.specs.Exact.{MakesWhole, exactSum}
 use Rattle.interval.specs.Interval.{LiesFrom, Positive, RestBelowUnit, Settles, unitAt}
 use Rattle.interval.specs.Digits.{settled, lowDigits}
 use Rattle.interval.proofs.Settling.{lies-from, shared-digits}
-use Rattle.interval.proofs.Digits.{greatest, none-settled, settled-none}
+use Rattle.interval.proofs.Digits.{greatest, none-settled, settled-none, one-outcome}
 use Rattle.interval.proofs.Bellard.{positive, bellard-rest}
 use Rattle.run.specs.Refusal.{refusal, answer}
 use Rattle.run.specs.Run.{limitsOf, inRange}
@@ -95,14 +95,16 @@ module _ (F : Formula) (fits : F .last < 2 ^ 64) (above : Positive F) (rest : (p
     closed : Closed F p lo hi bytes out
     unfolding answer Settles
     closed = record {
+      outcome = one-outcome lo hi;
       refused = λ n.
           let z = none-settled lo hi n in (
             answer-is ∙ ap (λ (d : ℕ). answer (cond (eqb d 0) 9 0) d) z,
             bytes-are ∙ ap (λ (d : ℕ). cond (eqb (cond (eqb d 0) 9 0) 0) (lowDigits d (quotient lo (unitAt d)) ++ drop d out) out) z,
           );
       only-then = λ a. settled-none lo hi (zero-of (settled lo hi) (sym answer-is ∙ a));
-      settled = λ d t most.
-          let e = greatest lo hi d t most in
+      settled = λ d g.
+          let e = greatest lo hi d g in
+          let t = g .settles in
           let n = ne-eqb d 0 (positive-digits d t) in (
             answer-is ∙ ap (λ (k : ℕ). answer (cond (eqb k 0) 9 0) k) e ∙ ap (λ (b : Bool). answer (cond b 9 0) d) n,
             λ D L dp h whole.

@@ -1,2 +1,4 @@
 pub mod Settlement
 pub mod Figures
+pub mod Agreement
+pub mod Facts

@@ -11,7 +11,7 @@ use Rattle.algebra.specs.Whole.{quotient}
 use Rattle.series.specs.Series.{Formula, rowCount, termCount, modulus}
 use Rattle.series.specs.Bellard.{bellard}
 use Rattle.interval.specs.Exact.{MakesWhole, exactSum}
-use Rattle.interval.specs.Interval.{LiesFrom, unitAt, Settles}
+use Rattle.interval.specs.Interval.{LiesFrom, unitAt, Greatest, NoneSettled, OneOutcome}
 use Rattle.interval.specs.Digits.{lowDigits}
 use Rattle.run.specs.Run.{limitsOf, inRange, isTicket, ticketSum}
 use Rattle.ledger.specs.Ledger.{fresh, ledgerSize}
@@ -37,12 +37,14 @@ finalTotal F p C posts = plainPosts (limitsOf F) (opened p C) posts .total
 
 -- What a closing of the ledger s into 32 bytes gives, where the exact sum lies from lo to hi.
 pub record Closed (F : Formula) (p : ℕ) (lo hi : ℤ) (s out : List ℕ) : Type 0 where
-  -- refusal 9 exactly where the distance settles no digit, and then the bytes stay
-  pub refused : ((d : ℕ) → Settles lo hi d → ⊥) → (closeAnswer F s out ≡ negℤ (pos 9)) × (closeBytes F s out ≡ out)
-  pub only-then : closeAnswer F s out ≡ negℤ (pos 9) → (d : ℕ) → Settles lo hi d → ⊥
+  -- the distance settles no digit, or there is a greatest d that it settles: one of the two, and one d
+  pub outcome : OneOutcome lo hi
+  -- refusal 9 exactly where it settles none, and then the bytes stay
+  pub refused : NoneSettled lo hi → (closeAnswer F s out ≡ negℤ (pos 9)) × (closeBytes F s out ≡ out)
+  pub only-then : closeAnswer F s out ≡ negℤ (pos 9) → NoneSettled lo hi
   -- else the answer is the greatest d that it settles, and the first d bytes are the lowest d digits of X / (D * 2 ^ (128 - 4 d)),
   -- for every exact sum X from length K on
-  pub settled : (d : ℕ) → Settles lo hi d → ((e : ℕ) → Settles lo hi e → e ≤ d)
+  pub settled : (d : ℕ) → Greatest lo hi d
       → (closeAnswer F s out ≡ pos d)
       × ((D L : ℕ) → 0 < D → termCount F p ≤ L → MakesWhole F p L D
       → closeBytes F s out ≡ lowDigits d (quotient (exactSum F p D L) (D * unitAt d)) ++ drop d out)
@@ -71,3 +73,10 @@ Demand F = (p C : ℕ) → inRange (limitsOf F) p C ≡ true → (posts : List P
 -- Demand 3
 abbrev pub Demand3 : Type 0
 Demand3 = Demand bellard
+
+-- Every list that fills a run at position p closes with d digits, and with these.
+abbrev pub ClosesWith : Formula → ℕ → ℕ → List ℕ → Type 0
+ClosesWith F p d digits =
+    (C : ℕ) → inRange (limitsOf F) p C ≡ true → (posts : List Post) → Filled F p C posts → (out : List ℕ) → length out ≡ 32
+    → (closeAnswer F (postsBytes (limitsOf F) (fresh (limitsOf F) p C) posts) out ≡ pos d)
+    × (closeBytes F (postsBytes (limitsOf F) (fresh (limitsOf F) p C) posts) out ≡ digits ++ drop d out)

@@ -1,0 +1,71 @@
+-- Demand 2, for any formula whose rows fit a byte and whose positions fit 8 bytes; and for Bellard's.
+-- Assumes nothing.
+use mathlib.Core.Path.{_≡_, refl, sym, ap, _∙_}
+use mathlib.Core.Bool.{true}
+use mathlib.Core.List.{List}
+use Prim.Native.Nat.{ℕ, _+_, _*_, _-_, _%_, _<_}
+use native.Mathlib.Nat.{add-mul-mod-self-left}
+use native.Mathlib.Omega.{arith}
+use lib.IntN.{subℕ}
+use lib.ListN.{length}
+use lib.Pow.{pow-pos}
+use Rattle.algebra.specs.Whole.{residue}
+use Rattle.algebra.proofs.Integers.{residue-lt, residue-is, diff-sub, turns, back}
+use Rattle.words.specs.Bytes.{bytesOf, valueOf}
+use Rattle.words.proofs.Bytes.{length-bytes, value-bytes}
+use Rattle.series.specs.Series.{Formula, plus, minus, modulus, rangeSum}
+use Rattle.run.specs.Refusal.{refusal, answer}
+use Rattle.run.specs.Run.{limitsOf, inRange, isTicket, ticketSum}
+use Rattle.ticket.specs.Work.{workRefusal, workAnswer, workBytes}
+use Rattle.sheet.specs.RoundTrip.{Fits}
+use Rattle.sheet.proofs.RoundTrip.{written-reads-back, accepted-is-written}
+use Rattle.settlement.specs.Agreement.{sideOf, Worked, Agreement, Demand2}
+
+-- the residue of a difference, with what was taken away put back
+residue-back : (m a b : ℕ) → 0 < m → (residue m (subℕ a b) + b) % m ≡ a % m
+residue-back m a b h =
+    let e = residue-is m (subℕ a b) h (diff-sub a b) in
+    let x = residue m (subℕ a b) in
+    let t = turns m (subℕ a b) in
+    let k = back m (subℕ a b) in
+    let q : x + b + m * k ≡ a + m * t = omega (arith, e) in
+    sym (add-mul-mod-self-left (x + b) m k) ∙ ap (λ (n : ℕ). n % m) q ∙ add-mul-mod-self-left a m t
+
+module _ (F : Formula) (p C row block : ℕ) where
+  pub ticket-sum-lt : ticketSum F p C row block < modulus
+  unfolding ticketSum rangeSum
+  ticket-sum-lt = residue-lt modulus _ (pow-pos 128)
+
+  signed : (ticketSum F p C row block + sideOf F minus p C row block) % modulus ≡ sideOf F plus p C row block % modulus
+  unfolding ticketSum rangeSum sideOf
+  signed = residue-back modulus (sideOf F plus p C row block) (sideOf F minus p C row block) (pow-pos 128)
+
+  not-refused : (out : List ℕ) → length out ≡ 16 → inRange (limitsOf F) p C ≡ true → isTicket (limitsOf F) C row block ≡ true
+      → workRefusal F p C row block out ≡ 0
+  unfolding workRefusal refusal
+  not-refused out l r t = rw (l, r, t) refl
+
+  worked : (out : List ℕ) → length out ≡ 16 → inRange (limitsOf F) p C ≡ true → isTicket (limitsOf F) C row block ≡ true
+      → Worked F p C row block out
+  unfolding workAnswer workBytes answer
+  worked out l r t =
+      let z : workRefusal F p C row block out ≡ 0 = not-refused out l r t in
+      let b : workBytes F p C row block out ≡ bytesOf 16 (ticketSum F p C row block) = rw z refl in
+      record {
+        answered = rw z refl;
+        sized = ap length b ∙ length-bytes 16 (ticketSum F p C row block);
+        sum-is = ap valueOf b ∙ value-bytes 16 (ticketSum F p C row block) ticket-sum-lt;
+        small = ticket-sum-lt;
+        signed = signed;
+      }
+
+pub agreement : (F : Formula) → Fits F → Agreement F
+agreement F fits = record {
+  works = λ p C row block out. worked F p C row block out;
+  reads-back = written-reads-back F fits;
+  is-written = accepted-is-written F fits;
+}
+
+-- Demand 2
+pub demand2 : Demand2
+demand2 = agreement _ (record { few = omega arith; near = omega arith })

@@ -1,0 +1,79 @@
+-- The facts about every run, for any formula whose positions fit 8 bytes; and for Bellard's. The tables ascend by one computed test.
+-- Assumes nothing.
+use mathlib.Core.Path.{_≡_, refl, sym, ap, subst}
+use mathlib.Core.Bool.{Bool, true, false, not}
+use mathlib.Core.Logic.{_⊎_, inl, inr, ⊎-elim}
+use mathlib.Core.List.{List, [], _∷_, List·Memᴰ·head, List·Memᴰ·tail}
+use Prim.Native.Nat.{ℕ, _^_, _<_}
+use native.Mathlib.Omega.{arith}
+use Rattle.algebra.proofs.Booleans.{and-left, and-right}
+use Rattle.series.specs.Series.{Formula}
+use Rattle.series.specs.Bellard.{bellard}
+use Rattle.run.specs.Refusal.{Test, _⇐_, refusal, ascendAbove, ascend, Applies, Smallest}
+use Rattle.run.specs.Run.{limitsOf}
+use Rattle.run.proofs.Smallest.{smallest}
+use Rattle.ticket.specs.Work.{workRefusal}
+use Rattle.ledger.specs.Calls.{openRefusal, ticketRefusal}
+use Rattle.sheet.specs.Calls.{writeRefusal, readRefusal, sheetRefusal}
+use Rattle.sheet.proofs.Many.{many-refused, many-listed}
+use Rattle.sheet.proofs.Singles.{sheet-as-singles}
+use Rattle.closing.specs.Closing.{closeRefusal}
+use Rattle.settlement.specs.Facts.{Arguments, Table, tables, allAscend, AllSmallest, ThreeOrFour, TooMany, Facts}
+
+-- each number is that of the first test that applies
+unfoldable FirstOf : List Table → Type 0
+FirstOf [] = Unit {0}
+FirstOf (t ∷ ts) = (t .number ≡ refusal (t .tests)) × FirstOf ts
+
+all-smallest : (ts : List Table) → allAscend ts ≡ true → FirstOf ts → AllSmallest ts
+unfolding allAscend AllSmallest FirstOf
+all-smallest [] a f = tt
+all-smallest (t ∷ ts) a f = (
+  subst (λ (n : ℕ). Smallest (t .tests) n) (sym (f .0)) (smallest (t .tests) (and-left (ascend (t .tests)) _ a)),
+  all-smallest ts (and-right (ascend (t .tests)) _ a) (f .1),
+)
+
+module _ (F : Formula) (a : Arguments) where
+  -- the computed test
+  tables-ascend : allAscend (tables F a) ≡ true
+  unfolding allAscend ascendAbove
+  tables-ascend = refl
+
+  first-of : FirstOf (tables F a)
+  unfolding FirstOf workRefusal openRefusal ticketRefusal writeRefusal readRefusal sheetRefusal closeRefusal
+  first-of = (refl, (refl, (refl, (refl, (refl, (refl, (refl, tt)))))))
+
+-- the test of that number, second or third in the list, applies
+third : (t u : Test) (n : ℕ) (b : Bool) (ts : List Test) → b ≡ false → Applies (t ∷ u ∷ (n ⇐ not b) ∷ ts) n
+third t u n b ts e =
+    record { test = n ⇐ not b; listed = List·Memᴰ·tail (List·Memᴰ·tail (List·Memᴰ·head refl)); number-is = refl; holds = ap not e }
+
+fourth : (t u v : Test) (n : ℕ) (b : Bool) (ts : List Test) → b ≡ false → Applies (t ∷ u ∷ v ∷ (n ⇐ not b) ∷ ts) n
+fourth t u v n b ts e =
+    record {
+      test = n ⇐ not b;
+      listed = List·Memᴰ·tail (List·Memᴰ·tail (List·Memᴰ·tail (List·Memᴰ·head refl)));
+      number-is = refl;
+      holds = ap not e;
+    }
+
+-- in a call's list the conditions of 3 and 4 stand third and fourth
+three-or-four : (t u : Test) (b c : Bool) (ts : List Test) → (b ≡ false) ⊎ (c ≡ false) → ThreeOrFour (t ∷ u ∷ (3 ⇐ not b) ∷ (4 ⇐ not c) ∷ ts)
+three-or-four t u b c ts h = ⊎-elim (λ e. inl (third t u 3 b _ e)) (λ e. inr (fourth t u (3 ⇐ not b) 4 c ts e)) h
+
+too-many : (F : Formula) → TooMany F
+too-many F = record {
+  written = λ p C list out h. three-or-four _ _ _ _ _ (many-listed F (limitsOf F) p C list h);
+  read = λ s list sums h. three-or-four _ _ _ _ _ (many-refused (limitsOf F) s h);
+  posted = λ ledger s h. three-or-four _ _ _ _ _ (many-refused (limitsOf F) s h);
+}
+
+pub facts : (F : Formula) → F .last < 2 ^ 64 → Facts F
+facts F fits = record {
+  smallest = λ a. all-smallest (tables F a) (tables-ascend F a) (first-of F a);
+  one-by-one = sheet-as-singles (limitsOf F) fits;
+  too-many = too-many F;
+}
+
+pub bellard-facts : Facts bellard
+bellard-facts = facts bellard (omega arith)
