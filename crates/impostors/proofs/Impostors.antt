@@ -1,0 +1,190 @@
+-- The engine is none of the wrong engines. Closings part from it at p = 1, which settles thirty digits, or at p = 5, which settles
+-- twenty-nine; tickets and posts at p = 1 with one block, in rows 0 and 1.
+-- Assumes nothing.
+use mathlib.Core.Path.{_≡_, refl, sym, ap, _∙_}
+use mathlib.Core.Bool.{Bool, true, false, not}
+use mathlib.Core.List.{List, [], _∷_, _++_}
+use Prim.Native.Nat.{ℕ, _-_}
+use native.Mathlib.Omega.{arith}
+use lib.IntN.{ℤ, pos, negsuc, pos-ne-negsuc}
+use lib.ListN.{getD, drop, replicate}
+use Rattle.algebra.specs.Sum.{sum}
+use Rattle.algebra.specs.Test.{allBelow}
+use Rattle.algebra.specs.Whole.{residue, sameℤ}
+use Rattle.words.specs.Bytes.{bytesOf, valueOf, field}
+use Rattle.series.specs.Series.{size, isAdded, termCount, onSide, rowSum, overRows, sideSum, sizesSum, rangeSum}
+use Rattle.series.specs.Bellard.{bellard}
+use Rattle.interval.specs.Interval.{isCharged, charges, low, high}
+use Rattle.interval.specs.Digits.{settledUpTo, settled, hexDigit, hexText, lowDigits}
+use Rattle.interval.proofs.Bellard.{positive, bellard-rest}
+use Rattle.run.specs.Refusal.{_⇐_, refusal, answer}
+use Rattle.run.proofs.Answering as answering
+use Rattle.run.specs.Run.{inRange, isTicket, bound, ticketSum}
+use Rattle.ticket.specs.Work.{workRefusal, workBytes}
+use Rattle.ledger.specs.Ledger.{fresh, enter, viewOf, posIn, blocksIn, totalIn, bitIn, markIn, inOrder}
+use Rattle.ledger.specs.Calls.{ticketRefusal, ticketBytes}
+use Rattle.sheet.specs.Posts.{Post, ticket, postBytes, postsBytes, postRefusal, postEntries}
+use Rattle.closing.specs.Closing.{settledAt, digitsAt, closeRefusal, closeAnswer, closeBytes}
+use Rattle.settlement.specs.Settlement.{Filled, ClosesWith, allSums}
+use Rattle.settlement.specs.Figures.{firstDigits}
+use Rattle.settlement.proofs.Theorem.{demand3}
+use Rattle.settlement.proofs.Filler.{filled-exists}
+use Rattle.settlement.proofs.FirstDigits.{closes-with, first-digits}
+use Rattle.impostors.specs.Impostors.{lim, AnswersAs, LeavesAs, sameDigits, WorksAs, oneSum, PostsAs, doesNothing, leftBy, fillEntry, fillsFirst, alwaysNine, nineUnseen, alwaysEight, madeUp, oneLess, wrongSize, wordBound, towardZero, settledTowardZero, ShutOut}
+
+-- 6A8885A308D313198A2E03707344A, the digits from position 5 on that a run settles
+abbrev fifthDigits : List ℕ
+fifthDigits =
+    54 ∷ 65 ∷ 56 ∷ 56 ∷ 56 ∷ 53 ∷ 65 ∷ 51 ∷ 48 ∷ 56 ∷ 68 ∷ 51 ∷ 49 ∷ 51 ∷ 49 ∷ 57 ∷ 56 ∷ 65 ∷ 50 ∷ 69 ∷ 48 ∷ 51 ∷ 55 ∷ 48 ∷ 55 ∷ 51 ∷ 52 ∷ 52 ∷ 65
+    ∷ []
+
+count-at-5 : settledAt bellard 5 (sizesSum bellard 5 (termCount bellard 5)) ≡ 29
+unfolding settledAt sizesSum size termCount settled settledUpTo low high sameℤ charges sideSum overRows rowSum sum onSide isAdded isCharged residue
+count-at-5 = refl
+
+digits-at-5 : digitsAt bellard 5 (sizesSum bellard 5 (termCount bellard 5)) 29 ≡ fifthDigits
+unfolding digitsAt sizesSum size termCount low charges sideSum overRows rowSum sum onSide isAdded isCharged residue lowDigits hexText hexDigit
+digits-at-5 = refl
+
+fifth-digits : ClosesWith bellard 5 29 fifthDigits
+fifth-digits = closes-with bellard demand3 positive bellard-rest 5 29 fifthDigits (omega arith) count-at-5 digits-at-5
+
+-- ---- a list that fills the run of one block at each of the two positions
+
+posts : ℕ → List Post
+posts p = filled-exists bellard p 1 .0
+
+filled : (p : ℕ) → Filled bellard p 1 (posts p)
+unfolding posts
+filled p = filled-exists bellard p 1 .1
+
+ledger : ℕ → List ℕ
+ledger p = postsBytes lim (fresh lim p 1) (posts p)
+
+zeros : List ℕ
+zeros = replicate 32 0
+
+at-1 : (closeAnswer bellard (ledger 1) zeros ≡ pos 30) × (closeBytes bellard (ledger 1) zeros ≡ firstDigits ++ drop 30 zeros)
+unfolding ledger zeros inRange
+at-1 = first-digits 1 refl (posts 1) (filled 1) zeros refl
+
+at-5 : (closeAnswer bellard (ledger 5) zeros ≡ pos 29) × (closeBytes bellard (ledger 5) zeros ≡ fifthDigits ++ drop 29 zeros)
+unfolding ledger zeros inRange
+at-5 = fifth-digits 1 refl (posts 5) (filled 5) zeros refl
+
+-- ---- closings
+
+module _ (A : List ℕ → List ℕ → ℤ) (same : AnswersAs A) where
+  thirty : A (ledger 1) zeros ≡ pos 30
+  unfolding ledger zeros inRange
+  thirty = sym (same 1 1 refl (posts 1) (filled 1) zeros refl) ∙ at-1 .0
+
+  twenty-nine : A (ledger 5) zeros ≡ pos 29
+  unfolding ledger zeros inRange
+  twenty-nine = sym (same 5 1 refl (posts 5) (filled 5) zeros refl) ∙ at-5 .0
+
+-- a refusal is no number of digits
+no-digits : (n d : ℕ) → negsuc n ≡ pos d → ⊥
+no-digits n d e = pos-ne-negsuc d n (sym e)
+
+always-nine : AnswersAs alwaysNine → ⊥
+always-nine same = no-digits 8 30 (thirty alwaysNine same)
+
+nine-unseen : AnswersAs nineUnseen → ⊥
+unfolding nineUnseen refusal answer
+nine-unseen same = go (wrongSize (ledger 1) zeros) (thirty nineUnseen same)
+  where
+    go : (b : Bool) → answer (refusal ((1 ⇐ b) ∷ (9 ⇐ true) ∷ [])) 0 ≡ pos 30 → ⊥
+    go true e = no-digits 0 30 e
+    go false e = no-digits 8 30 e
+
+always-eight : AnswersAs alwaysEight → ⊥
+unfolding alwaysEight refusal answer
+always-eight same = go (wrongSize (ledger 1) zeros) (not (inOrder lim (ledger 1))) (thirty alwaysEight same)
+  where
+    go : (b c : Bool) → answer (refusal ((1 ⇐ b) ∷ (5 ⇐ c) ∷ (8 ⇐ true) ∷ [])) 0 ≡ pos 30 → ⊥
+    go true c e = no-digits 0 30 e
+    go false true e = no-digits 4 30 e
+    go false false e = no-digits 7 30 e
+
+-- the ledger is not refused, and so the answer is whatever number is handed out in place of d
+module _ (p d : ℕ) (e : closeAnswer bellard (ledger p) zeros ≡ pos d) where
+  not-refused : (closeRefusal bellard (ledger p) zeros ≡ 0) × (settledAt bellard (posIn (ledger p)) (totalIn (ledger p)) ≡ d)
+  unfolding closeAnswer
+  not-refused = answering.not-refused _ _ d e
+
+  handed-out : (n : ℕ) → answer (closeRefusal bellard (ledger p) zeros) n ≡ pos n
+  unfolding answer
+  handed-out n = rw (not-refused .0) refl
+
+made-up : (d : ℕ) → AnswersAs (madeUp d) → ⊥
+unfolding madeUp
+made-up d same =
+    let a : pos d ≡ pos 30 = sym (handed-out 1 30 (at-1 .0) d) ∙ thirty (madeUp d) same in
+    let b : pos d ≡ pos 29 = sym (handed-out 5 29 (at-5 .0) d) ∙ twenty-nine (madeUp d) same in
+    let z : _≡_ {A = ℕ} 30 29 = cc in
+    omega (arith, z)
+
+one-less : AnswersAs oneLess → ⊥
+unfolding oneLess
+one-less same =
+    let n = settledAt bellard (posIn (ledger 1)) (totalIn (ledger 1)) in
+    let a : pos (n - 1) ≡ pos 30 = sym (handed-out 1 30 (at-1 .0) (n - 1)) ∙ thirty oneLess same in
+    let b = not-refused 1 30 (at-1 .0) .1 in
+    let z : n - 1 ≡ 30 = cc in
+    omega (arith, z, b)
+
+one-set-of-digits : (w : List ℕ) → LeavesAs (sameDigits w) → ⊥
+unfolding ledger zeros inRange
+one-set-of-digits w same =
+    let a = same 1 1 refl (posts 1) (filled 1) zeros refl in
+    let b = same 5 1 refl (posts 5) (filled 5) zeros refl in
+    let z : _≡_ {A = ℕ} 50 54 = ap (λ (l : List ℕ). getD l 0 0) (sym (at-1 .1) ∙ a ∙ sym b ∙ at-5 .1) in
+    omega (arith, z)
+
+-- ---- tickets: row 0 and row 1 at p = 1 have sums with other top bytes
+
+one-sum : (w : List ℕ) → WorksAs (oneSum w) → ⊥
+unfolding workBytes workRefusal refusal inRange isTicket ticketSum rangeSum bound size termCount rowSum sum onSide isAdded residue bytesOf
+one-sum w same =
+    let a = same 1 1 0 0 (replicate 16 0) refl refl refl in
+    let b = same 1 1 1 0 (replicate 16 0) refl refl refl in
+    let z = ap (λ (l : List ℕ). getD l 15 0) (a ∙ sym b) in
+    omega (arith, z)
+
+-- ---- posts: the ticket of row 0 at p = 1, C = 1, with its right sum
+
+one-post : List Post
+one-post = ticket 1 1 0 0 (bytesOf 16 (ticketSum bellard 1 1 0 0)) ∷ []
+
+-- its mark is set
+does-nothing : PostsAs doesNothing → ⊥
+unfolding one-post leftBy postsBytes postBytes ticketBytes ticketRefusal refusal viewOf inOrder inRange isTicket allBelow posIn blocksIn markIn bitIn field valueOf fresh enter bytesOf ticketSum rangeSum bound size termCount rowSum sum onSide isAdded residue
+does-nothing same =
+    let z : _≡_ {A = ℕ} 1 0 = ap (λ (l : List ℕ). getD l 32 0) (same 1 1 refl one-post) in
+    omega (arith, z)
+
+-- the top byte of the total is that of its sum, 80 in hexadecimal, and not the 24 of the whole run's
+fills-first : PostsAs fillsFirst → ⊥
+unfolding one-post leftBy fillsFirst fillEntry postsBytes postBytes ticketBytes postRefusal postEntries ticketRefusal refusal viewOf inOrder inRange isTicket allBelow posIn blocksIn markIn bitIn field valueOf fresh enter bytesOf allSums ticketSum rangeSum bound size termCount rowSum sum onSide isAdded residue
+fills-first same =
+    let z : _≡_ {A = ℕ} 128 36 = ap (λ (l : List ℕ). getD l 31 0) (same 1 1 refl one-post) in
+    omega (arith, z)
+
+-- ---- arithmetic
+
+pub shut-out : ShutOut
+unfolding wordBound bound termCount settledTowardZero towardZero settledAt settled settledUpTo low high sameℤ charges sideSum overRows rowSum sum onSide isAdded isCharged
+shut-out = record {
+  always-nine = always-nine;
+  nine-unseen = nine-unseen;
+  always-eight = always-eight;
+  made-up = made-up;
+  one-less = one-less;
+  one-set-of-digits = one-set-of-digits;
+  one-sum = one-sum;
+  does-nothing = does-nothing;
+  fills-first = fills-first;
+  product-in-a-word = (refl, λ e. omega (arith, e));
+  rounded-toward-zero = (refl, refl);
+}

@@ -1,0 +1,138 @@
+-- The wrong engines that document 01 names under "Traps of this arithmetic" and "For those who test", where no edit of the code can be
+-- them: each is written down by what it answers or leaves, and `ShutOut` says that the engine is none of them. Nothing of the engine
+-- rests on these definitions.
+use mathlib.Core.Path.{_≡_}
+use mathlib.Core.Bool.{Bool, true, not, cond, _||_}
+use mathlib.Core.List.{List, [], _∷_, _++_, foldl}
+use Prim.Native.Nat.{ℕ, zero, suc, _+_, _*_, _-_, _/_, _%_, _^_}
+use lib.Dec.{eqb}
+use lib.IntN.{ℤ, pos, negsuc, negℤ, subℕ}
+use lib.ListN.{length, drop}
+use Rattle.algebra.specs.Test.{allBelow}
+use Rattle.algebra.specs.Whole.{sameℤ}
+use Rattle.series.specs.Series.{rowCount, termCount}
+use Rattle.series.specs.Bellard.{bellard}
+use Rattle.interval.specs.Interval.{unitAt}
+use Rattle.run.specs.Refusal.{_⇐_, refusal, answer}
+use Rattle.run.specs.Run.{Limits, limitsOf, inRange, isTicket, bound}
+use Rattle.ticket.specs.Work.{workBytes}
+use Rattle.ledger.specs.Ledger.{ledgerSize, viewOf, posIn, blocksIn, totalIn, bitIn, inOrder, fresh, enter}
+use Rattle.ledger.specs.Plain.{Entry}
+use Rattle.sheet.specs.Posts.{Post, postRefusal, postEntries, postsBytes}
+use Rattle.closing.specs.Closing.{lowOf, highOf, settledAt, closeRefusal, closeAnswer, closeBytes}
+use Rattle.settlement.specs.Settlement.{Filled, allSums}
+
+abbrev pub lim : Limits
+lim = limitsOf bellard
+
+-- ---- closings, by what they answer to a ledger and the bytes lent for the digits, and by what they leave in these
+
+-- the engine's closing of every filled run answers as A does
+abbrev pub AnswersAs : (List ℕ → List ℕ → ℤ) → Type 0
+AnswersAs A =
+    (p C : ℕ) → inRange lim p C ≡ true → (posts : List Post) → Filled bellard p C posts → (out : List ℕ) → length out ≡ 32
+    → closeAnswer bellard (postsBytes lim (fresh lim p C) posts) out ≡ A (postsBytes lim (fresh lim p C) posts) out
+
+-- it leaves the bytes that B leaves
+abbrev pub LeavesAs : (List ℕ → List ℕ → List ℕ) → Type 0
+LeavesAs B =
+    (p C : ℕ) → inRange lim p C ≡ true → (posts : List Post) → Filled bellard p C posts → (out : List ℕ) → length out ≡ 32
+    → closeBytes bellard (postsBytes lim (fresh lim p C) posts) out ≡ B (postsBytes lim (fresh lim p C) posts) out
+
+-- always 9
+abbrev pub alwaysNine : List ℕ → List ℕ → ℤ
+alwaysNine s digits = negℤ (pos 9)
+
+-- refusal 1 of a closing
+abbrev pub wrongSize : List ℕ → List ℕ → Bool
+wrongSize s digits = not (eqb (length s) (ledgerSize lim)) || not (eqb (length digits) 32)
+
+-- 9 before looking: where the sizes are right, nothing else is looked at
+unfoldable pub nineUnseen : List ℕ → List ℕ → ℤ
+nineUnseen s digits = answer (refusal ((1 ⇐ wrongSize s digits) ∷ (9 ⇐ true) ∷ [])) 0
+
+-- 8 on a full ledger, as on every other that is in order
+unfoldable pub alwaysEight : List ℕ → List ℕ → ℤ
+alwaysEight s digits =
+    answer (refusal ((1 ⇐ wrongSize s digits) ∷ (5 ⇐ not (inOrder lim s)) ∷ (8 ⇐ true) ∷ [])) 0
+
+-- a made-up d: one number for all ledgers that settle a digit
+unfoldable pub madeUp : ℕ → List ℕ → List ℕ → ℤ
+madeUp d s digits = answer (closeRefusal bellard s digits) d
+
+-- a made-up d: one less than the greatest that the distance settles
+unfoldable pub oneLess : List ℕ → List ℕ → ℤ
+oneLess s digits = answer (closeRefusal bellard s digits) (settledAt bellard (posIn s) (totalIn s) - 1)
+
+-- one set of digits for all positions
+abbrev pub sameDigits : List ℕ → List ℕ → List ℕ → List ℕ
+sameDigits w s digits = w ++ drop (length w) digits
+
+-- ---- tickets
+
+-- the engine's working of every ticket leaves the bytes that W leaves
+abbrev pub WorksAs : (ℕ → ℕ → ℕ → ℕ → List ℕ → List ℕ) → Type 0
+WorksAs W =
+    (p C row block : ℕ) (out : List ℕ) → length out ≡ 16 → inRange lim p C ≡ true → isTicket lim C row block ≡ true
+    → workBytes bellard p C row block out ≡ W p C row block out
+
+-- one sum for all tickets
+abbrev pub oneSum : List ℕ → ℕ → ℕ → ℕ → ℕ → List ℕ → List ℕ
+oneSum w p C row block out = w
+
+-- ---- posts, by what they leave of a ledger
+
+unfoldable pub leftBy : (List ℕ → Post → List ℕ) → List ℕ → List Post → List ℕ
+leftBy P s [] = s
+leftBy P s (a ∷ posts) = leftBy P (P s a) posts
+
+-- the engine's posts leave what posts by P leave, for every list on a fresh ledger
+abbrev pub PostsAs : (List ℕ → Post → List ℕ) → Type 0
+PostsAs P = (p C : ℕ) → inRange lim p C ≡ true → (posts : List Post) → postsBytes lim (fresh lim p C) posts ≡ leftBy P (fresh lim p C) posts
+
+-- a post that does nothing
+abbrev pub doesNothing : List ℕ → Post → List ℕ
+doesNothing s a = s
+
+-- the first ticket posted fills in the sums of the whole run, each later one is only marked
+unfoldable pub fillEntry : List ℕ → Entry → List ℕ
+fillEntry s t =
+    enter s (t .row) (t .block)
+    (cond (allBelow (rowCount bellard) (λ row. allBelow 256 (λ block. not (bitIn s row block)))) (allSums bellard (posIn s) (blocksIn s)) 0)
+
+unfoldable pub fillsFirst : List ℕ → Post → List ℕ
+fillsFirst s a = cond (eqb (postRefusal lim (viewOf lim s) a) 0) (foldl fillEntry s (postEntries a)) s
+
+-- ---- arithmetic
+
+-- block bounds by i * K cut to 64 bits
+unfoldable pub wordBound : ℕ → ℕ → ℕ → ℕ
+wordBound K C i = i * K % 2 ^ 64 / C
+
+-- the quotient rounded toward 0, and the number of digits settled by it, from 1 to n
+unfoldable pub towardZero : ℤ → ℕ → ℤ
+towardZero (pos n) m = pos (n / m)
+towardZero (negsuc n) m = subℕ 0 (suc n / m)
+
+unfoldable pub settledTowardZero : ℤ → ℤ → ℕ → ℕ
+settledTowardZero lo hi zero = 0
+settledTowardZero lo hi (suc d) =
+    cond (sameℤ (towardZero lo (unitAt (suc d))) (towardZero hi (unitAt (suc d)))) (suc d) (settledTowardZero lo hi d)
+
+-- ---- the engine is none of them
+
+pub record ShutOut : Type 0 where
+  pub always-nine : AnswersAs alwaysNine → ⊥
+  pub nine-unseen : AnswersAs nineUnseen → ⊥
+  pub always-eight : AnswersAs alwaysEight → ⊥
+  pub made-up : (d : ℕ) → AnswersAs (madeUp d) → ⊥
+  pub one-less : AnswersAs oneLess → ⊥
+  pub one-set-of-digits : (w : List ℕ) → LeavesAs (sameDigits w) → ⊥
+  pub one-sum : (w : List ℕ) → WorksAs (oneSum w) → ⊥
+  pub does-nothing : PostsAs doesNothing → ⊥
+  pub fills-first : PostsAs fillsFirst → ⊥
+  -- at p = 2 ^ 60, C = 256, block 39 would be empty; it is not
+  pub product-in-a-word : let K = termCount bellard (2 ^ 60) in
+      (wordBound K 256 40 - wordBound K 256 39 ≡ 0) × (bound K 256 40 - bound K 256 39 ≡ 0 → ⊥)
+  -- at p = 1, total 0 would settle thirty digits; it settles none
+  pub rounded-toward-zero : (settledTowardZero (lowOf bellard 1 0) (highOf bellard 1 0) 32 ≡ 30) × (settledAt bellard 1 0 ≡ 0)

@@ -1,0 +1,1 @@
+// Wrong engines written down, and that each parts from the engine: see specs/.
