@@ -51,3 +51,18 @@ pub fn put_refused(out: &mut [u8; 80], number: u64) -> usize
     let second = put_word(out, 0, b"refused", b' ');
     put_number(out, second, number, b'\n')
 }
+
+// The line for a ledger, at the start of `out`. The answer is its length.
+pub fn put_line(f: Series, ledger: &[u8], out: &mut [u8; 80]) -> usize
+    ensures { λ r. ⌜ Counts r (now (out .exit)) ⌝ }
+    ensures { λ r. ⌜ take r (now (out .exit)) ≡ closingLine (formulaOf f) (now (ledger .entry)) ⌝ }
+{
+    let mut digits = [0u8; 32];
+    match closing::close(f, ledger, &mut digits) {
+        Answer::Finished(d) => {
+            let count = d as usize;
+            put_finished(out, words::get(ledger, 0, 8), d as u64, &digits[..count])
+        }
+        Answer::Refused(r) => put_refused(out, run::number_of(r)),
+    }
+}
