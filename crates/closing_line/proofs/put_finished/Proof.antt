@@ -5,10 +5,6 @@ use Rattle.closing_line.specs.Line.{finishedLine}
 use Rattle.closing_line.proofs.Adding.{join, whole}
 use Rattle.closing_line.proofs.put_finished.Statement.{statement}
 use Rattle.closing_line.proofs.put_finished.Tie as tie
-use Rattle.closing_line.proofs.put_finished.Reads as reads
-use Rattle.closing_line.proofs.put_finished.Lts as lts
-use Rattle.closing_line.proofs.put_number.Reads as put-number-reads
-use Rattle.closing_line.proofs.put_word.Reads as put-word-reads
 
 put-number-requires : tie.Need-put-number-requires
 put-number-requires c κs = search needs

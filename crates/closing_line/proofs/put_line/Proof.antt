@@ -7,13 +7,6 @@ use borrow.Author.Needs.{needs}
 use Rattle.closing_line.proofs.Lines.{within, finished-line, refused-line}
 use Rattle.closing_line.proofs.put_line.Statement.{statement}
 use Rattle.closing_line.proofs.put_line.Tie as tie
-use Rattle.closing_line.proofs.put_line.Reads as reads
-use Rattle.closing_line.proofs.put_line.Lts as lts
-use Rattle.closing.proofs.close.Reads as close-reads
-use Rattle.closing_line.proofs.put_finished.Reads as put-finished-reads
-use Rattle.closing_line.proofs.put_refused.Reads as put-refused-reads
-use Rattle.run.proofs.number_of.Reads as number-of-reads
-use Rattle.words.proofs.get.Reads as get-reads
 
 slice-aggregate-close : tie.Need-slice-aggregate-close
 slice-aggregate-close c = search needs
@@ -31,7 +24,7 @@ get-requires : tie.Need-get-requires
 get-requires c κs =
     let told = c .before .before in
     let closed = told .before .before .before in
-    (within _ _ _ (closed .close .ensures .0) _ (told .d .given .1) .0, omega arith)
+    (omega (arith, within _ _ _ (closed .close .ensures .0) _ (told .d .given .1) .0), omega arith)
 
 cast-put-finished : tie.Need-cast-put-finished
 cast-put-finished c = search needs

@@ -5,10 +5,6 @@ use borrow.Author.Needs.{needs}
 use Rattle.closing_line.proofs.Places.{few-places, number-added}
 use Rattle.closing_line.proofs.put_number.Statement.{statement}
 use Rattle.closing_line.proofs.put_number.Tie as tie
-use Rattle.closing_line.proofs.put_number.Reads as reads
-use Rattle.closing_line.proofs.put_number.Lts as lts
-use Rattle.closing_line.proofs.put_word.Reads as put-word-reads
-use Rattle.io.proofs.decimal.Reads as decimal-reads
 
 decimal-requires : tie.Need-decimal-requires
 decimal-requires c κs = search needs

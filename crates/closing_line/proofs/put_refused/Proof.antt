@@ -5,10 +5,6 @@ use Rattle.closing_line.specs.Line.{refusedLine}
 use Rattle.closing_line.proofs.Adding.{join, whole}
 use Rattle.closing_line.proofs.put_refused.Statement.{statement}
 use Rattle.closing_line.proofs.put_refused.Tie as tie
-use Rattle.closing_line.proofs.put_refused.Reads as reads
-use Rattle.closing_line.proofs.put_refused.Lts as lts
-use Rattle.closing_line.proofs.put_number.Reads as put-number-reads
-use Rattle.closing_line.proofs.put_word.Reads as put-word-reads
 
 slice-aggregate-put-word : tie.Need-slice-aggregate-put-word
 slice-aggregate-put-word c = search needs

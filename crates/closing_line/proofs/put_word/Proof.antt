@@ -10,8 +10,6 @@ use Rattle.words.proofs.Bytes.{paste-step}
 use Rattle.closing_line.proofs.Adding.{ended}
 use Rattle.closing_line.proofs.put_word.Statement.{statement}
 use Rattle.closing_line.proofs.put_word.Tie as tie
-use Rattle.closing_line.proofs.put_word.Reads as reads
-use Rattle.closing_line.proofs.put_word.Lts as lts
 
 abbrev Inv-loop : tie.InvT-loop
 Inv-loop out₀ at text end i₀ out i = (i ≤ length text) × (length out ≡ length out₀) × (out ≡ paste out₀ at text i)
