@@ -1,14 +1,13 @@
 -- The decimal digits of a number, as `io::decimal` counts and writes them.
 -- Assumes nothing.
 use mathlib.Core.Path.{_≡_, refl, ap, ap₂, subst, _∙_}
-use mathlib.Core.Bool.{cond}
 use mathlib.Core.List.{List, [], _∷_, _++_}
 use Prim.Native.Nat.{ℕ, zero, suc, _+_, _*_, _-_, _/_, _%_, _^_, _<_, _≤_}
 use native.Mathlib.Nat.{pow-zero, pow-suc, one-le-pow, pow-le-pow-right, lt-of-not-le, le-of-suc-le-suc}
 use native.Mathlib.Numerals.{unary-clauses}
 use native.Mathlib.Omega.{arith}
 use borrow.Author.Tests.{lt-ltb, le-ltb}
-use lib.Dec.{ltb, lit<}
+use lib.Dec.{lit<}
 use lib.ListN.{length, take, length-append}
 use Rattle.io.specs.Digits.{digits, glyph, Fewest}
 use Rattle.closing_line.specs.Decimal.{decimalWithin, decimal}
@@ -29,6 +28,7 @@ few-places k n h f = le-of-suc-le-suc (lt-of-not-le more)
         let p : 10 ^ 20 ≤ 10 ^ (k - 1) = pow-le-pow-right (lit< tt) m in
         omega arith
 
+-- the fewest digits that hold a number are its decimal ones
 pub as-decimal : (places k n : ℕ) → k ≤ places → Fewest 10 1 n k → digits 10 k n ≡ decimalWithin places n
 unfolding decimalWithin
 as-decimal zero k n h f = absurd (omega arith)
