@@ -1,25 +1,32 @@
 #!/usr/bin/env bash
-# closer.sh PROGRAM - the closing program on the marked closings of document 01 and on damaged ledgers.
+# closer.sh PROGRAM - the closing program on the marked closings of document 01, on damaged ledgers, and on input of other sizes.
 set -eu
 program=$1
 checks=0
 
 zeros() { head -c "$1" /dev/zero; }
 
-# The ledger of p = 1, C = 1 with a total of 32 hexadecimal digits; the second word is the byte of marks of every row.
-ledger() {
-    printf '\1\0\0\0\0\0\0\0\1\0\0\0\0\0\0\0'
-    for ((i = 30; i >= 0; i -= 2)); do printf '%b' "\\x${1:i:2}"; done
-    for _ in 0 1 2 3 4 5 6; do
-        printf '%b' "\\x$2"
-        zeros 31
-    done
+# number BYTES HEX - a hexadecimal number in so many bytes, the lowest first.
+number() {
+    local digits=$2 i
+    while [ ${#digits} -lt $((2 * $1)) ]; do digits=0$digits; done
+    for ((i = 2 * $1 - 2; i >= 0; i -= 2)); do printf '%b' "\\x${digits:i:2}"; done
 }
 
+# ledger P C TOTAL MARKS - in hexadecimal; bit i of the marks is that of block i, in every row.
+ledger() {
+    number 8 "$1"
+    number 2 "$2"
+    zeros 6
+    number 16 "$3"
+    for _ in 0 1 2 3 4 5 6; do number 32 "$4"; done
+}
+
+# expect LINE LABEL - standard input is closed: the line, its end and status 0 come out, and nothing else.
 expect() {
     local got
-    got=$("$program")
-    if [ "$got" != "$1" ]; then
+    got=$("$program"; echo "status $?")
+    if [ "$got" != "$1"$'\n''status 0' ]; then
         printf 'closer: %s: printed %s, not %s\n' "$2" "$got" "$1" >&2
         exit 1
     fi
@@ -33,23 +40,46 @@ try() {
     checks=$((checks + 1))
 }
 
-too_short() { ledger "$fifty" 01 | head -c 255; }
-too_long() { ledger "$fifty" 01; zeros 1; }
-reserved_byte() { { ledger "$fifty" 01 | head -c 15; printf '\1'; ledger "$fifty" 01 | tail -c 240; }; }
+# The ledger of document 01's line, its first bytes, its last bytes, and more behind it.
+full() { ledger 1 1 32 1; }
+first() { full | head -c "$1"; }
+last() { full | tail -c "$1"; }
+longer() { full; zeros "$1"; }
 
-fifty=00000000000000000000000000000032
-try 'refused 9' 'total 49' ledger 00000000000000000000000000000031 01
-try '1 30 000000000000000000000000000000' 'total 50' ledger "$fifty" 01
-try '1 30 FFFFFFFFFFFFFFFFFFFFFFFFFFFFFF' 'total 2^128 - 51' ledger ffffffffffffffffffffffffffffffcd 01
-try 'refused 9' 'total 2^128 - 50' ledger ffffffffffffffffffffffffffffffce 01
-try '1 1 1' 'total 2^124 + 2^120' ledger 11000000000000000000000000000000 01
-try 'refused 9' 'total 0' ledger 00000000000000000000000000000000 01
-try 'refused 8' 'no mark' ledger "$fifty" 00
-try 'refused 5' 'a mark at C' ledger "$fifty" 03
-try 'refused 5' 'a reserved byte' reserved_byte
+in_pieces() { first 100; sleep 0.2; last 156; }
+reserved_byte() { first 15; number 1 1; last 240; }
+last_row_unmarked() { first 224; zeros 32; }
+
+# finished
+try '1 30 000000000000000000000000000000' 'total 50' full
+try '1 30 FFFFFFFFFFFFFFFFFFFFFFFFFFFFFF' 'total 2^128 - 51' ledger 1 1 ffffffffffffffffffffffffffffffcd 1
+try '1 1 1' 'total 2^124 + 2^120' ledger 1 1 11000000000000000000000000000000 1
+try '1 30 0123456789ABCDEFFEDCBA98765432' 'every digit' ledger 1 1 0123456789abcdeffedcba9876543280 1
+try '1 30 000000000000000000000000000000' '256 blocks' ledger 1 100 32 ffffffffffffffffffffffffffffffffffffffffffffffffffffffffffffffff
+try '1152921504606846976 16 8888888888888888' 'position 2^60' ledger 1000000000000000 1 88888888888888888888888888888888 1
+try '1152921504606846975 16 8888888888888888' 'position 2^60 - 1' ledger fffffffffffffff 1 88888888888888888888888888888888 1
+try '1000000 26 88888888888888888888888888' 'position 10^6' ledger f4240 1 88888888888888888888888888888888 1
+try '1 30 000000000000000000000000000000' 'in pieces' in_pieces
+
+# refused: 1, the size
+for size in 0 1 100 255; do try 'refused 1' "$size bytes" first "$size"; done
+for more in 1 256 3840 3841 65536 99744; do try 'refused 1' "$more bytes more" longer "$more"; done
+try 'refused 1' '100,000 zeros' zeros 100000
+
+# refused: 5, the order
 try 'refused 5' 'zeros' zeros 256
-try 'refused 1' '255 bytes' too_short
-try 'refused 1' '257 bytes' too_long
-try 'refused 1' 'no byte' zeros 0
-try 'refused 1' '70,000 bytes' zeros 70000
+try 'refused 5' 'position 0' ledger 0 1 32 1
+try 'refused 5' 'position 2^60 + 1' ledger 1000000000000001 1 32 1
+try 'refused 5' 'no block' ledger 1 0 32 0
+try 'refused 5' '257 blocks' ledger 1 101 32 ffffffffffffffffffffffffffffffffffffffffffffffffffffffffffffffff
+try 'refused 5' 'a mark at C' ledger 1 1 32 3
+try 'refused 5' 'a reserved byte' reserved_byte
+
+# refused: 8, a ticket unmarked; 9, no digit settled
+try 'refused 8' 'no mark' ledger 1 1 32 0
+try 'refused 8' 'the last row unmarked' last_row_unmarked
+try 'refused 8' 'one block of 256 unmarked' ledger 1 100 32 7fffffffffffffffffffffffffffffffffffffffffffffffffffffffffffffff
+try 'refused 9' 'total 0' ledger 1 1 0 1
+try 'refused 9' 'total 49' ledger 1 1 31 1
+try 'refused 9' 'total 2^128 - 50' ledger 1 1 ffffffffffffffffffffffffffffffce 1
 echo "closer: $checks checks"

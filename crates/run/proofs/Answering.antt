@@ -56,16 +56,17 @@ changed number new old e = rw e refl
 
 -- ---- from the answer
 
-some-number : (r : Refusal) → 0 < numberOf r
-some-number WrongSize = lit< tt
-some-number OutOfRange = lit< tt
-some-number Malformed = lit< tt
-some-number NoTicket = lit< tt
-some-number OutOfOrder = lit< tt
-some-number OtherRun = lit< tt
-some-number Marked = lit< tt
-some-number Unmarked = lit< tt
-some-number Unsettled = lit< tt
+-- the table's numbers
+pub numbered : (r : Refusal) → (0 < numberOf r) × (numberOf r < 10)
+numbered WrongSize = (lit< tt, lit< tt)
+numbered OutOfRange = (lit< tt, lit< tt)
+numbered Malformed = (lit< tt, lit< tt)
+numbered NoTicket = (lit< tt, lit< tt)
+numbered OutOfOrder = (lit< tt, lit< tt)
+numbered OtherRun = (lit< tt, lit< tt)
+numbered Marked = (lit< tt, lit< tt)
+numbered Unmarked = (lit< tt, lit< tt)
+numbered Unsettled = (lit< tt, lit< tt)
 
 below-zero : (n value : ℕ) → 0 < n → negℤ (pos n) ≡ pos value → ⊥
 below-zero zero value h e = omega arith
@@ -86,7 +87,7 @@ was-finished a v number value f e =
 pub was-number : (a : Answer) (r : Refusal) (number value : ℕ) → a ≡ Refused r → answerOf a ≡ answer number value
     → (n : ℕ) × (number ≡ suc n) × (negsuc n ≡ answerOf (Refused r))
 unfolding answer
-was-number a r zero value f e = absurd (below-zero (numberOf r) value (some-number r) (sym (ap answerOf f) ∙ e))
+was-number a r zero value f e = absurd (below-zero (numberOf r) value (numbered r .0) (sym (ap answerOf f) ∙ e))
 was-number a r (suc n) value f e = (n, refl, sym e ∙ ap answerOf f)
 
 pub was-refused : (a : Answer) (r : Refusal) (number value : ℕ) (new old : List ℕ) → a ≡ Refused r → answerOf a ≡ answer number value

@@ -3,6 +3,7 @@ use series::Series;
 ghost use mathlib.Core.Path.{_≡_};
 ghost use Rattle.series.specs.Names.{formulaOf};
 ghost use Rattle.run.specs.Run.{limitsOf, inRange, isTicket};
+ghost use Rattle.run.specs.Answers.{numberOf};
 
 // The refusals that document 01 numbers from 1 to 9.
 pub enum Refusal {
@@ -21,6 +22,23 @@ pub enum Refusal {
 pub enum Answer {
     Finished(u32),
     Refused(Refusal),
+}
+
+// The number of a refusal in the table.
+pub fn number_of(r: Refusal) -> u64
+    ensures { λ n. ⌜ n ≡ numberOf r ⌝ }
+{
+    match r {
+        Refusal::WrongSize => 1,
+        Refusal::OutOfRange => 2,
+        Refusal::Malformed => 3,
+        Refusal::NoTicket => 4,
+        Refusal::OutOfOrder => 5,
+        Refusal::OtherRun => 6,
+        Refusal::Marked => 7,
+        Refusal::Unmarked => 8,
+        Refusal::Unsettled => 9,
+    }
 }
 
 // Whether p and c are those of a run.

@@ -1,0 +1,4 @@
+pub mod Adding
+pub mod Places
+pub mod Lines
+pub mod Figures
