@@ -84,8 +84,12 @@ uint64_t below(uint64_t limit)
 
 void any_bytes(uint8_t *at, size_t len)
 {
-    for (size_t i = 0; i < len; i += 8)
-        put(at + i, len - i < 8 ? len - i : 8, any());
+    uint64_t word;
+    for (; len >= sizeof word; at += sizeof word, len -= sizeof word) {
+        word = any();
+        memcpy(at, &word, sizeof word);
+    }
+    put(at, len, any());
 }
 
 uint64_t bad_position(void)

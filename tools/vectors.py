@@ -198,8 +198,8 @@ def tickets():
 
 
 def far_tickets():
-    print("\n# Tickets of some million terms, with N below 2^32, above 2^33, above 2^32: far p C row block sum bytes")
-    for p, row, i in ((2 * 10**9, 1, 200), (22 * 10**8, 2, 255), (2 * 10**9, 6, 180)):
+    print("\n# Tickets of some million terms, with N above 2^33, below 2^32, above 2^32: far p C row block sum bytes")
+    for p, row, i in ((22 * 10**8, 2, 255), (2 * 10**9, 1, 200), (2 * 10**9, 6, 180)):
         ticket_line(p, 256, row, i, "far")
 
 
