@@ -38,6 +38,7 @@ void sheet_of_blocks(struct sheet *sheet, uint64_t blocks, uint64_t c)
 
 const struct sheet_case sheet_cases[] = {
     {"15 bytes", 1, {1, 1, 0, 15, UNPATCHED}},
+    {"15 bytes, C 256", 1, {1, 256, 0, 15, UNPATCHED}},
     {"16 bytes", 0, {1, 1, 0, 16, UNPATCHED}},
     {"16 bytes, C 256", 0, {1, 256, 0, 16, UNPATCHED}},
     {"17 bytes, e 0", 3, {1, 1, 0, 17, UNPATCHED}},

@@ -135,6 +135,7 @@ static const struct {
     {"C 2 on a ledger of 1", -6, {256, 1, 1, 0, UNPATCHED}, ONE(1, 2)},
     {"all marked, p 2 on a ledger of 1", -6, {256, 1, 1, 1, {{16, 8, 50}}}, ONE(2, 1)},
     {"all marked", -7, {256, 1, 1, 1, {{16, 8, 50}}}, ONE(1, 1)},
+    {"all marked, e 1,793", -1, {256, 1, 256, 1, UNPATCHED}, {1, 256, 1793, 35876, UNPATCHED}},
     {"e 0", 0, {256, 1, 1, 0, UNPATCHED}, NONE},
     {"e 0, all marked", 0, {256, 1, 1, 1, UNPATCHED}, NONE},
     {"e 0, ledger of zeros", -5, {256, 0, 0, 0, UNPATCHED}, NONE},

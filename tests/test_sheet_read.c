@@ -65,12 +65,12 @@ static int64_t compare(void)
     return answer;
 }
 
-/* Reads with outputs for the count in the head, and `more` bytes in each. */
-static int64_t read_into(size_t more)
+/* Reads with outputs for the count in the head and some tickets more, and with some bytes more. */
+static int64_t read_into(size_t tickets, size_t bytes)
 {
-    size_t e = ref_load(t.sheet.bytes + 10, 2);
-    t.list_len = 2 * e + more;
-    t.sums_len = 16 * e + more;
+    size_t e = ref_load(t.sheet.bytes + 10, 2) + tickets;
+    t.list_len = 2 * e + bytes;
+    t.sums_len = 16 * e + bytes;
     return compare();
 }
 
@@ -78,7 +78,9 @@ static void try_sheet_case(const struct sheet_case *one)
 {
     int64_t wanted = one->number > 0 ? -one->number : (int64_t)one->form.e;
     make_sheet(&t.sheet, &one->form);
-    CHECK(read_into(0) == wanted && read_into(1) == wanted && read_into(MORE) == wanted, "read %s", one->what);
+    for (size_t tickets = 0; tickets <= 2; tickets++)
+        CHECK(read_into(tickets, 0) == wanted, "read %s, outputs for %zu tickets more", one->what, tickets);
+    CHECK(read_into(0, 1) == wanted && read_into(0, MORE) == wanted, "read %s, longer outputs", one->what);
 }
 
 static void every_size_below_a_head(void)
@@ -86,7 +88,7 @@ static void every_size_below_a_head(void)
     struct sheet_form none = {1, 1, 0, 16, UNPATCHED};
     make_sheet(&t.sheet, &none);
     for (t.sheet.len = 0; t.sheet.len < 16; t.sheet.len++)
-        CHECK(read_into(0) == -1, "a sheet of %zu bytes", t.sheet.len);
+        CHECK(read_into(0, 0) == -1, "a sheet of %zu bytes", t.sheet.len);
 }
 
 /* Sheets with outputs of other sizes than they take. */
@@ -149,7 +151,7 @@ static void every_count(void)
     for (size_t e = 0; e <= 1792; e++) {
         struct sheet_form form = {any_position(), 256, e, BBP_SHEET_SIZE(e), UNPATCHED};
         make_sheet(&t.sheet, &form);
-        CHECK(read_into(0) == (int64_t)e, "the first %zu tickets of C = 256", e);
+        CHECK(read_into(0, 0) == (int64_t)e, "the first %zu tickets of C = 256", e);
     }
 }
 
@@ -158,7 +160,7 @@ static void more_than_the_run_has(void)
 {
     for (uint64_t c = 1; c < 256; c++) {
         sheet_of_blocks(&t.sheet, c + 1, c);
-        CHECK(read_into(0) == -4, "a sheet of 7 * %" PRIu64 " tickets for C = %" PRIu64, c + 1, c);
+        CHECK(read_into(0, 0) == -4, "a sheet of 7 * %" PRIu64 " tickets for C = %" PRIu64, c + 1, c);
     }
 }
 

@@ -309,7 +309,7 @@ static int64_t wrongly_refused(uint64_t p, size_t e, size_t sheet_len)
 {
     if ((WRONG(24) && e == 0) || (WRONG(31) && sheet_len > BBP_SHEET_MAX) || (WRONG(58) && e == 1791))
         return -1;
-    if ((WRONG(46) && p > 1000) || (WRONG(48) && e == 0 && p == BBP_MAX_POSITION))
+    if ((WRONG(46) && e > 0 && p > 1000) || (WRONG(48) && e == 0 && p == BBP_MAX_POSITION))
         return -2;
     return 0;
 }
