@@ -38,7 +38,7 @@ TESTS = $(CALLS) refusals tickets list
 SUPPORT = common sheets vectors reference reference_close
 HEADERS = $(wildcard include/*.h tests/*.h examples/*.h bench/*.h)
 
-# The stand-in keeps a number, the way in which it is wrong, and has no closing program.
+# The stand-in keeps the number of the way in which it is wrong, and has no closing program.
 OF_PROVED = $(if $(filter $(PROVED),$(ENGINE)),$(1))
 COMMANDS = 'bash tests/header.sh build' 'build/test_reference' 'bash tests/mutants/run.sh build/mutants $(TESTS)' \
 	'bash tests/mutants/libraries.sh build/mutants $(STANDIN) $(CALLS)' 'bash tests/symbols.sh $(ENGINE) $(CALLS)' \
@@ -46,7 +46,7 @@ COMMANDS = 'bash tests/header.sh build' 'build/test_reference' 'bash tests/mutan
 	'bash tests/examples.sh $(OUT)/minimal $(OUT)/acceptance' \
 	'$(OUT)/published 1000000' '$(OUT)/published overlap 1000000' \
 	'bash tests/farm.sh $(OUT)/farm $(OUT)/farm-test' 'bash tests/install.sh $(CURDIR)/$(OUT)/install' \
-	$(call OF_PROVED,'bash tests/sections.sh $(ENGINE)' 'bash tests/closer.sh $(CLOSER)')
+	$(call OF_PROVED,'bash tests/state.sh $(ENGINE)' 'bash tests/closer.sh $(CLOSER)')
 BUILT = build/test_reference $(TESTS:%=build/mutants/test_%) $(TESTS:%=$(OUT)/test_%) \
 	$(addprefix $(OUT)/,minimal acceptance published farm) $(call OF_PROVED,$(CLOSER))
 

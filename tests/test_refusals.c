@@ -7,7 +7,7 @@
 #include <inttypes.h>
 #include <string.h>
 
-/* What a call is made with: a ledger, and up to two tickets of a run. The sums are zero. */
+/* What a call is made with: a ledger, and up to two tickets of a run. */
 struct example {
     int number;
     const char *words;

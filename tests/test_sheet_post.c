@@ -109,7 +109,7 @@ static void try_sheet_case(const struct sheet_case *one)
 #define ONE(p, c) {p, c, 1, 36, UNPATCHED}
 #define NONE {1, 1, 0, 16, UNPATCHED}
 
-/* Sheets that nothing but the ledger is against, and their ledgers; then what is against both. */
+/* Sheets and the ledgers that they meet. */
 static const struct {
     const char *what;
     int64_t answer;

@@ -230,10 +230,10 @@ static void empty_lists(void)
         write_first(UINT64_C(1) << bit, 1 + below(256), 0, 16);
 }
 
-/* One ticket of 1.8 * 10^15 terms: no engine is done with it at once. */
+/* The ticket of test_work.c that takes years, and that 64 bits find empty. */
 static void write_at_the_largest_position(void)
 {
-    uint8_t list[2] = {0, 0}, sheet[36];
+    uint8_t list[2] = {39, 0}, sheet[36];
     bbp_sheet_write(BBP_MAX_POSITION, 256, list, 2, sheet, 36);
 }
 

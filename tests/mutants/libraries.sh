@@ -1,5 +1,5 @@
 #!/usr/bin/env bash
-# libraries.sh DIRECTORY STANDIN CALL.. - shows that symbols.sh and sections.sh can fail: libraries that are wrong
+# libraries.sh DIRECTORY STANDIN CALL.. - shows that symbols.sh and state.sh can fail: libraries that are wrong
 # in one way each are made in DIRECTORY, the ones for symbols.sh from the stand-in.
 set -euo pipefail
 directory=$1
@@ -35,10 +35,10 @@ symbols() {
     try 1 tests/symbols.sh "$directory/symbols.a" "$@"
 }
 
-# sections STATUS CODE - sections.sh on a library of that code.
-sections() {
-    library sections '' "$2"
-    try "$1" tests/sections.sh "$directory/sections.a"
+# state STATUS CODE - state.sh on a library of that code.
+state() {
+    library state '' "$2"
+    try "$1" tests/state.sh "$directory/state.a"
 }
 
 try 0 tests/symbols.sh "$standin" "$@"
@@ -48,11 +48,13 @@ symbols 'int helper;' "$@"
 symbols 'const int helper = 1;' "$@"
 symbols 'int bbp_helper(void) { return 0; }' "$@"
 try 1 tests/symbols.sh "$standin" "$@" helper
-sections 0 'static const int table[] = {1, 2}; int f(int i) { return table[i & 1]; }'
-sections 1 'int f(void) { static int calls; return ++calls; }'
-sections 1 'int f(void) { static int calls = 1; return ++calls; }'
-sections 1 'int f(void) { static __thread int calls; return ++calls; }'
-sections 1 'int f(void) { static __thread int calls = 1; return ++calls; }'
-sections 1 'int calls; int f(void) { return ++calls; }'
-try 1 tests/sections.sh "$standin"
+state 0 'static const int table[] = {1, 2}; int f(int i) { return table[i & 1]; }'
+state 1 'int f(void) { static int calls; return ++calls; }'
+state 1 'int f(void) { static int calls = 1; return ++calls; }'
+state 1 'int f(void) { static __thread int calls; return ++calls; }'
+state 1 'int f(void) { static __thread int calls = 1; return ++calls; }'
+state 1 'int calls; int f(void) { return ++calls; }'
+state 1 'void *malloc(unsigned long); void *f(void) { return malloc(16); }'
+state 0 'void *memcpy(void *, const void *, unsigned long); void *f(void *x, void *y, int i) { return memcpy(x, y, i); }'
+try 1 tests/state.sh "$standin"
 echo "libraries: $checks checks"
