@@ -297,7 +297,7 @@ void expect_huge_kept(void)
 
 static void work_and_end(void (*call)(void))
 {
-    struct itimerval limit = {{0, 0}, {0, 300000}};
+    struct itimerval limit = {{0, 0}, {0, 100000}};
     if (signal(SIGPROF, SIG_DFL) == SIG_ERR || setitimer(ITIMER_PROF, &limit, NULL) != 0)
         _exit(2);
     call();

@@ -45,7 +45,6 @@ try 0 tests/symbols.sh "$standin" "$@"
 symbols 'int helper(void) { return 0; }' "$@"
 symbols '__attribute__((weak)) int helper(void) { return 0; }' "$@"
 symbols 'int helper;' "$@"
-symbols 'const int helper = 1;' "$@"
 symbols 'int bbp_helper(void) { return 0; }' "$@"
 try 1 tests/symbols.sh "$standin" "$@" helper
 state 0 'static const int table[] = {1, 2}; int f(int i) { return table[i & 1]; }'
