@@ -55,7 +55,7 @@ size_t huge_length(size_t len);
 void expect_huge(const uint8_t *bytes, size_t len);
 void expect_huge_kept(void);
 
-/* Whether a call, made in a child process, is still at work after 0.1 seconds of the processor's time; then it is stopped. */
+/* Whether a call, made in a child process, is still at work after 0.1 seconds of processor time; then it is stopped. */
 int still_working(void (*call)(void));
 
 /* A copy on the heap, for the reference; freed by the caller. */

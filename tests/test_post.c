@@ -186,12 +186,11 @@ static void try_cases(void)
     }
 }
 
-/* One ledger, post after post. A sum of 255s is -1: with the second of them the total wraps. */
+/* One ledger, post after post. A sum of 255s is -1, so the total wraps. */
 static void post_after_post(void)
 {
     static const struct { uint64_t row, block; uint8_t byte; int64_t answer; } posts[] = {
-        {0, 0, 3, 0},     {0, 0, 3, -7},      {0, 0, 255, -7}, {6, 255, 255, 0},
-        {6, 255, 255, -7}, {0, 255, 3, 0}, {1, 0, 3, 0},
+        {0, 0, 3, 0}, {0, 0, 3, -7}, {0, 0, 255, -7}, {6, 255, 255, 0}, {6, 255, 255, -7}, {0, 255, 3, 0}, {1, 0, 3, 0},
     };
     struct ledger_form fresh = FRESH(256);
     prepare();
@@ -204,9 +203,11 @@ static void post_after_post(void)
     }
 }
 
-static void null_and_huge_examples(void)
+static void plain_examples(void)
 {
     uint8_t ledger[256] = {1, [8] = 1}, sum[16] = {1};
+    CHECK(bbp_post(ledger, 256, 1, 1, 0, 0, sum, 16) == 0, "row 0, block 0");
+    CHECK(ledger[16] == 1 && ledger[32] == 1, "the sum and the mark of row 0, block 0");
     CHECK(bbp_post(NULL, 0, 1, 1, 0, 0, sum, 16) == -1, "an empty ledger");
     CHECK(bbp_post(ledger, 256, 1, 1, 1, 0, NULL, 0) == -1, "an empty sum");
     CHECK(bbp_post(lend_huge(), huge_length(256), 1, 1, 0, 0, sum, 16) == -1, "a ledger of 2^32 + 256 bytes");
@@ -221,7 +222,7 @@ int main(int argc, char **argv)
     start("post", argc, argv);
     try_cases();
     post_after_post();
-    null_and_huge_examples();
+    plain_examples();
     for (int i = 0; i < 6; i++)
         every_ticket(counts[i]);
     run_suite(&suite);
