@@ -15,7 +15,7 @@ COUNT = 3000
 LONG = 1000000000 10000000000 100000000000
 PROCESSES =
 
-# The calls that the engine has. Their tests are test_CALL.
+# The calls of the engine; test_CALL tests one.
 CALLS = work open post sheet_write sheet_read sheet_post close
 
 PROVED = target/staticlib/libengine.a
@@ -33,26 +33,22 @@ TEST_FLAGS = $(WARN) -D_GNU_SOURCE $(INCLUDE) -O1 -g -fsanitize=address,undefine
 PLAIN_FLAGS = $(WARN) -D_GNU_SOURCE $(INCLUDE) -O1
 PROGRAM_FLAGS = $(WARN) $(INCLUDE) $(CFLAGS)
 
-# Tests of several calls at once go with the calls that they need.
-has = $(filter $(1),$(CALLS))
-TESTS = $(CALLS) $(if $(call has,work),tickets) $(if $(and $(call has,open),$(call has,post),$(call has,sheet_post)),list)
-CLOSES = $(call has,close)
+TESTS = $(CALLS) refusals tickets list
 
-SUPPORT = common sheets vectors reference $(if $(CLOSES),reference_close)
+SUPPORT = common sheets vectors reference reference_close
 HEADERS = $(wildcard include/*.h tests/*.h examples/*.h bench/*.h)
 
-# Until there is a crate `engine`, the tests that need no engine are all.
-HAVE_ENGINE = $(or $(filter-out $(PROVED),$(ENGINE)),$(shell grep -s '^engine[[:space:]]*:' crates.txt))
-
-ALONE = 'bash tests/header.sh build' 'build/test_reference' 'bash tests/mutants/run.sh build/mutants $(TESTS)'
-WITH_ENGINE = 'bash tests/symbols.sh $(ENGINE) $(CALLS)' $(foreach t,$(TESTS),'$(OUT)/test_$(t) $(SEED) $(COUNT)')
-WITH_CLOSING = 'bash tests/examples.sh $(OUT)/minimal $(OUT)/acceptance' \
+# The stand-in keeps the number of the way in which it is wrong, and has no closing program.
+OF_PROVED = $(if $(filter $(PROVED),$(ENGINE)),$(1))
+COMMANDS = 'bash tests/header.sh build' 'build/test_reference' 'bash tests/mutants/run.sh build/mutants $(TESTS)' \
+	'bash tests/mutants/libraries.sh build/mutants $(STANDIN) $(CALLS)' 'bash tests/symbols.sh $(ENGINE) $(CALLS)' \
+	$(foreach t,$(TESTS),'$(OUT)/test_$(t) $(SEED) $(COUNT)') \
+	'bash tests/examples.sh $(OUT)/minimal $(OUT)/acceptance' \
 	'$(OUT)/published 1000000' '$(OUT)/published overlap 1000000' \
 	'bash tests/farm.sh $(OUT)/farm $(OUT)/farm-test' 'bash tests/install.sh $(CURDIR)/$(OUT)/install' \
-	$(if $(filter $(PROVED),$(ENGINE)),'bash tests/closer.sh $(CLOSER)')
-COMMANDS = $(ALONE) $(if $(HAVE_ENGINE),$(WITH_ENGINE) $(if $(CLOSES),$(WITH_CLOSING)))
-BUILT = build/test_reference $(TESTS:%=build/mutants/test_%) \
-	$(if $(HAVE_ENGINE),$(TESTS:%=$(OUT)/test_%) $(if $(CLOSES),$(addprefix $(OUT)/,minimal acceptance published farm) $(if $(filter $(PROVED),$(ENGINE)),$(CLOSER))))
+	$(call OF_PROVED,'bash tests/state.sh $(ENGINE)' 'bash tests/closer.sh $(CLOSER)')
+BUILT = build/test_reference $(TESTS:%=build/mutants/test_%) $(TESTS:%=$(OUT)/test_%) \
+	$(addprefix $(OUT)/,minimal acceptance published farm) $(call OF_PROVED,$(CLOSER))
 
 .PHONY: digits test check bench published published-long install vectors clean standin
 

@@ -7,6 +7,8 @@
 #include <stdlib.h>
 #include <string.h>
 #include <sys/mman.h>
+#include <sys/time.h>
+#include <sys/wait.h>
 #include <unistd.h>
 
 /* Checks. */
@@ -82,8 +84,12 @@ uint64_t below(uint64_t limit)
 
 void any_bytes(uint8_t *at, size_t len)
 {
-    for (size_t i = 0; i < len; i++)
-        at[i] = (uint8_t)any();
+    uint64_t word;
+    for (; len >= sizeof word; at += sizeof word, len -= sizeof word) {
+        word = any();
+        memcpy(at, &word, sizeof word);
+    }
+    put(at, len, any());
 }
 
 uint64_t bad_position(void)
@@ -144,8 +150,7 @@ static struct slot {
     uint8_t *room; /* ROOM bytes between two unmapped pages */
     uint8_t *at;   /* the lent bytes */
     size_t len;
-    uint8_t *guard; /* NULL for an empty slice */
-    uint8_t *kept;  /* what was lent */
+    uint8_t *kept; /* what was lent */
 } slots[SLOTS];
 
 static uint8_t *map(size_t len, int protection)
@@ -174,18 +179,31 @@ static uint8_t guard_byte(size_t i)
 static void place_empty(struct slot *slot)
 {
     uint8_t *places[] = {NULL, slot->room - PAGE, slot->room + ROOM};
-    slot->guard = NULL;
     slot->at = places[below(3)];
+}
+
+/* Guard bytes before the slice, and after it, as far as there is room. */
+static size_t guards_before(const struct slot *slot)
+{
+    size_t room = (size_t)(slot->at - slot->room);
+    return room < GUARD ? room : GUARD;
+}
+
+static size_t guards_after(const struct slot *slot)
+{
+    size_t room = (size_t)(slot->room + ROOM - (slot->at + slot->len));
+    return room < GUARD ? room : GUARD;
 }
 
 static void place(struct slot *slot, const uint8_t *bytes, size_t len)
 {
-    int at_end = (int)below(2);
-    slot->at = at_end ? slot->room + ROOM - len : slot->room;
-    slot->guard = at_end ? slot->at - GUARD : slot->at + len;
+    size_t gap = below(2) == 0 ? 0 : 1 + below(15);
+    slot->at = below(2) == 0 ? slot->room + ROOM - len - gap : slot->room + gap;
     memcpy(slot->at, bytes, len);
-    for (size_t i = 0; i < GUARD; i++)
-        slot->guard[i] = guard_byte(i);
+    for (size_t i = 0; i < guards_before(slot); i++)
+        slot->at[-1 - (ptrdiff_t)i] = guard_byte(i);
+    for (size_t i = 0; i < guards_after(slot); i++)
+        slot->at[len + i] = guard_byte(i);
 }
 
 uint8_t *lend(int number, const uint8_t *bytes, size_t len)
@@ -213,10 +231,21 @@ const uint8_t *lend_input(int number, const uint8_t *bytes, size_t len)
 
 static size_t first_difference(const uint8_t *x, const uint8_t *y, size_t len)
 {
-    size_t i = 0;
+    size_t i = memcmp(x, y, len) == 0 ? len : 0;
     while (i < len && x[i] == y[i])
         i++;
     return i;
+}
+
+static int guards_hold(const struct slot *slot)
+{
+    for (size_t i = 0; i < guards_before(slot); i++)
+        if (slot->at[-1 - (ptrdiff_t)i] != guard_byte(i))
+            return 0;
+    for (size_t i = 0; i < guards_after(slot); i++)
+        if (slot->at[slot->len + i] != guard_byte(i))
+            return 0;
+    return 1;
 }
 
 void expect(int number, const uint8_t *bytes, const char *what)
@@ -225,9 +254,7 @@ void expect(int number, const uint8_t *bytes, const char *what)
     size_t i = slot->len == 0 ? 0 : first_difference(slot->at, bytes, slot->len);
     CHECK(i == slot->len, "%s: byte %zu of %zu is %02x and not %02x", what, i, slot->len,
           i < slot->len ? slot->at[i] : 0, i < slot->len ? bytes[i] : 0);
-    for (i = 0; slot->guard != NULL && i < GUARD && slot->guard[i] == guard_byte(i);)
-        i++;
-    CHECK(slot->guard == NULL || i == GUARD, "%s: a byte outside the slice of %zu was changed", what, slot->len);
+    CHECK(slot->len == 0 || guards_hold(slot), "%s: a byte outside the slice of %zu was changed", what, slot->len);
 }
 
 void expect_kept(int number, const char *what)
@@ -251,12 +278,43 @@ uint8_t *lend_huge(void)
     return huge;
 }
 
+void expect_huge(const uint8_t *bytes, size_t len)
+{
+    uint8_t wanted[PAGE] = {0};
+    if (len > 0)
+        memcpy(wanted, bytes, len);
+    size_t i = first_difference(huge, wanted, PAGE);
+    CHECK(i == PAGE, "byte %zu of a slice of over 2^32 bytes is %02x and not %02x", i, huge[i % PAGE], wanted[i % PAGE]);
+    memset(huge, 0, PAGE);
+}
+
 void expect_huge_kept(void)
 {
-    size_t i = 0;
-    while (i < PAGE && huge[i] == 0)
-        i++;
-    CHECK(i == PAGE, "a refused call changed byte %zu of a slice of over 2^32 bytes", i);
+    expect_huge(NULL, 0);
+}
+
+/* Calls that take longer than anyone waits. */
+
+static void work_and_end(void (*call)(void))
+{
+    struct itimerval limit = {{0, 0}, {0, 100000}};
+    if (signal(SIGPROF, SIG_DFL) == SIG_ERR || setitimer(ITIMER_PROF, &limit, NULL) != 0)
+        _exit(2);
+    call();
+    _exit(0);
+}
+
+int still_working(void (*call)(void))
+{
+    int status;
+    pid_t child = fork();
+    if (child == 0)
+        work_and_end(call);
+    if (child < 0 || waitpid(child, &status, 0) != child || (WIFEXITED(status) && WEXITSTATUS(status) == 2)) {
+        fprintf(stderr, "%s: no child process\n", test_name);
+        exit(2);
+    }
+    return WIFSIGNALED(status) && WTERMSIG(status) == SIGPROF;
 }
 
 uint8_t *copy_of(const uint8_t *bytes, size_t len)
@@ -316,15 +374,33 @@ uint64_t any_chance(void)
     return chances[below(6)];
 }
 
+static void put_run(uint8_t *bytes, uint64_t p, uint64_t c)
+{
+    put(bytes, 8, p);
+    put(bytes + 8, 2, c);
+}
+
 void any_ledger(uint8_t *ledger, uint64_t p, uint64_t c, uint64_t chance)
 {
     memset(ledger, 0, 256);
-    put(ledger, 8, p);
-    put(ledger + 8, 2, c);
+    put_run(ledger, p, c);
     any_bytes(ledger + 16, 16);
     for (uint64_t row = 0; row < 7; row++)
         for (uint64_t block = 0; block < c; block++)
             set_mark(ledger, row, block, below(256) < chance);
+}
+
+void patch(uint8_t *bytes, const struct patch patches[PATCHES])
+{
+    for (int i = 0; i < PATCHES; i++)
+        put(bytes + patches[i].at, patches[i].width, patches[i].value);
+}
+
+void make_ledger(uint8_t *ledger, const struct ledger_form *form)
+{
+    any_ledger(ledger, form->p, form->c, form->marked ? 256 : 0);
+    memset(ledger + 16, 0, 16);
+    patch(ledger, form->patches);
 }
 
 static void mark_beyond(uint8_t *ledger)
@@ -358,11 +434,16 @@ size_t any_list(uint8_t *list, uint64_t c, uint64_t chance)
     return e;
 }
 
+void first_pairs(uint8_t *list, uint64_t blocks, size_t e)
+{
+    for (size_t i = 0; i < e; i++)
+        put(list + 2 * i, 2, BBP_PAIR(i / blocks, i % blocks));
+}
+
 size_t any_sheet(uint8_t *sheet, uint64_t p, uint64_t c, const uint8_t *list, size_t e)
 {
     memset(sheet, 0, 16 + 4 * e);
-    put(sheet, 8, p);
-    put(sheet + 8, 2, c);
+    put_run(sheet, p, c);
     put(sheet + 10, 2, e);
     for (size_t i = 0; i < e; i++) {
         sheet[16 + 4 * i] = list[2 * i + 1];

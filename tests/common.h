@@ -33,20 +33,30 @@ size_t wrong_size(size_t size);
 
 /*
  * Slices lent to the engine. The bytes are copied to a place that ends at an
- * unmapped page or starts after one, with guard bytes at the other side; an
- * input is made read-only. An empty slice is a null pointer or one at an
- * unmapped page. After the call, `expect` compares the bytes and the guards;
- * `expect_kept` compares them with what was lent.
+ * unmapped page, or starts after one, or lies up to 15 bytes off one, so that
+ * it is not aligned; guard bytes stand on both sides. An input is made
+ * read-only. An empty slice is a null pointer or one at an unmapped page.
+ * After the call, `expect` compares the bytes and the guards; `expect_kept`
+ * compares them with what was lent.
  */
 enum { SLOTS = 3 };
 uint8_t *lend(int slot, const uint8_t *bytes, size_t len);
 const uint8_t *lend_input(int slot, const uint8_t *bytes, size_t len);
 void expect(int slot, const uint8_t *bytes, const char *what);
 void expect_kept(int slot, const char *what);
-/* A slice of 2^32 + len bytes, of which the first 4,096 are zero and can be written: a length cut to 32 bits shows. */
+
+/*
+ * A slice of 2^32 + len bytes, all zero, of which the first 4,096 can be
+ * written: a length cut to 32 bits shows. `expect_huge` compares the first
+ * bytes and that the others are zero, then clears them.
+ */
 uint8_t *lend_huge(void);
 size_t huge_length(size_t len);
+void expect_huge(const uint8_t *bytes, size_t len);
 void expect_huge_kept(void);
+
+/* Whether a call, made in a child process, is still at work after 0.1 seconds of processor time; then it is stopped. */
+int still_working(void (*call)(void));
 
 /* A copy on the heap, for the reference; freed by the caller. */
 uint8_t *copy_of(const uint8_t *bytes, size_t len);
@@ -60,10 +70,28 @@ void put(uint8_t *at, size_t bytes, uint64_t value);
 void set_mark(uint8_t *ledger, uint64_t row, uint64_t block, int marked);
 /* A ledger in order: random total, each ticket marked with the given chance in 256. */
 void any_ledger(uint8_t *ledger, uint64_t p, uint64_t c, uint64_t chance);
+/* Changes of some bytes: `width` bytes from `at` on become `value`. Width 0 changes nothing. */
+enum { PATCHES = 2 };
+struct patch {
+    size_t at, width;
+    uint64_t value;
+};
+#define UNPATCHED {{0, 0, 0}}
+void patch(uint8_t *bytes, const struct patch patches[PATCHES]);
+/* A ledger of a case: of p, C and total 0, with no ticket or every ticket marked, then patched; lent in `len` bytes. */
+struct ledger_form {
+    size_t len;
+    uint64_t p, c;
+    int marked;
+    struct patch patches[PATCHES];
+};
+void make_ledger(uint8_t *ledger, const struct ledger_form *form);
 /* Makes a ledger not in order in one of its ways. */
 void spoil_ledger(uint8_t *ledger);
 /* An ascending list of tickets, each taken with the given chance in 256; gives e. */
 size_t any_list(uint8_t *list, uint64_t c, uint64_t chance);
+/* The first e pairs of the list that has `blocks` blocks in each row. */
+void first_pairs(uint8_t *list, uint64_t blocks, size_t e);
 /* The sheet of a list with random sums. */
 size_t any_sheet(uint8_t *sheet, uint64_t p, uint64_t c, const uint8_t *list, size_t e);
 uint64_t any_chance(void);

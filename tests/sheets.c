@@ -12,6 +12,90 @@ void prepare_sheet(struct sheet *sheet)
     sheet->len = any_sheet(sheet->bytes, sheet->p, sheet->c, list, sheet->e);
 }
 
+void make_sheet(struct sheet *sheet, const struct sheet_form *form)
+{
+    uint8_t list[BBP_LIST_MAX + 2];
+    any_bytes(sheet->bytes, SHEET_ROOM);
+    first_pairs(list, form->c > 0 ? form->c : 1, form->e);
+    any_sheet(sheet->bytes, form->p, form->c, list, form->e);
+    patch(sheet->bytes, form->patches);
+    sheet->p = form->p;
+    sheet->c = form->c;
+    sheet->e = form->e;
+    sheet->len = form->len;
+}
+
+void sheet_of_blocks(struct sheet *sheet, uint64_t blocks, uint64_t c)
+{
+    struct sheet_form form = {1, blocks, 7 * blocks, BBP_SHEET_SIZE(7 * blocks), {{8, 2, c}}};
+    make_sheet(sheet, &form);
+    sheet->c = c;
+}
+
+/* Two entries of the contents, each of 4 bytes: the row, a zero byte, the block. */
+#define ENTRY(row, block) ((row) | (uint64_t)(block) << 16)
+#define ENTRIES(row, block, next_row, next_block) {{16, 4, ENTRY(row, block)}, {20, 4, ENTRY(next_row, next_block)}}
+
+const struct sheet_case sheet_cases[] = {
+    {"15 bytes", 1, {1, 1, 0, 15, UNPATCHED}},
+    {"15 bytes, C 256", 1, {1, 256, 0, 15, UNPATCHED}},
+    {"16 bytes", 0, {1, 1, 0, 16, UNPATCHED}},
+    {"16 bytes, C 256", 0, {1, 256, 0, 16, UNPATCHED}},
+    {"17 bytes, e 0", 3, {1, 1, 0, 17, UNPATCHED}},
+    {"35,856 bytes, e 0", 3, {1, 256, 0, 35856, UNPATCHED}},
+    {"35,857 bytes, e 0", 1, {1, 256, 0, 35857, UNPATCHED}},
+    {"e 7 in 155 bytes", 3, {1, 1, 7, 155, UNPATCHED}},
+    {"e 7 in 157 bytes", 3, {1, 1, 7, 157, UNPATCHED}},
+    {"e 1,792 in 35,856 bytes", 0, {1, 256, 1792, 35856, UNPATCHED}},
+    {"e 1,792 in 35,857 bytes", 1, {1, 256, 1792, 35857, UNPATCHED}},
+    {"e 1,793 in 35,876 bytes", 1, {1, 256, 1793, 35876, UNPATCHED}},
+    {"e 65,535 in 16 bytes", 3, {1, 1, 0, 16, {{10, 2, 65535}}}},
+    {"e 65,535 in 16 bytes, C 256", 3, {1, 256, 0, 16, {{10, 2, 65535}}}},
+    {"e 65,535 in 16 bytes, p 0", 2, {0, 256, 0, 16, {{10, 2, 65535}}}},
+    {"e 65,535 in 35,856 bytes", 3, {1, 1, 0, 35856, {{10, 2, 65535}}}},
+    {"e 65,535 in 35,857 bytes", 1, {1, 1, 0, 35857, {{10, 2, 65535}}}},
+    {"p 0", 2, {0, 1, 1, 36, UNPATCHED}},
+    {"p 2^60 + 1", 2, {BBP_MAX_POSITION + 1, 1, 1, 36, UNPATCHED}},
+    {"C 0", 2, {1, 0, 1, 36, UNPATCHED}},
+    {"C 257", 2, {1, 257, 1, 36, UNPATCHED}},
+    {"C 65,535", 2, {1, 65535, 1, 36, UNPATCHED}},
+    {"p 2^60, C 256", 0, {BBP_MAX_POSITION, 256, 1, 36, UNPATCHED}},
+    {"C 257, equal tickets", 2, {1, 257, 2, 56, ENTRIES(0, 0, 0, 0)}},
+    {"e 0, C 513, zero byte 15", 2, {1, 513, 0, 16, {{15, 1, 1}}}},
+    {"e 0, p 0", 2, {0, 1, 0, 16, UNPATCHED}},
+    {"e 0, zero byte 15", 3, {1, 1, 0, 16, {{15, 1, 1}}}},
+    {"C 1, (0, 0), (0, 0)", 3, {1, 1, 2, 56, ENTRIES(0, 0, 0, 0)}},
+    {"C 1, (1, 0), (0, 0)", 3, {1, 1, 2, 56, ENTRIES(1, 0, 0, 0)}},
+    {"(0, 5), (0, 6)", 0, {1, 256, 2, 56, ENTRIES(0, 5, 0, 6)}},
+    {"(0, 5), (0, 5)", 3, {1, 256, 2, 56, ENTRIES(0, 5, 0, 5)}},
+    {"(0, 6), (0, 5)", 3, {1, 256, 2, 56, ENTRIES(0, 6, 0, 5)}},
+    {"(0, 255), (1, 0)", 0, {1, 256, 2, 56, ENTRIES(0, 255, 1, 0)}},
+    {"(0, 256), (1, 0): 256 twice", 3, {1, 256, 2, 56, ENTRIES(0, 256, 1, 0)}},
+    {"(0, 300), (1, 44): 300 twice", 3, {1, 256, 2, 56, ENTRIES(0, 300, 1, 44)}},
+    {"(0, 300), (1, 100): 300 below 356", 4, {1, 256, 2, 56, ENTRIES(0, 300, 1, 100)}},
+    {"(7, 0), (0, 0)", 3, {1, 256, 2, 56, ENTRIES(7, 0, 0, 0)}},
+    {"(7, 0), (6, 255)", 3, {1, 256, 2, 56, ENTRIES(7, 0, 6, 255)}},
+    {"(6, 255), (7, 0)", 4, {1, 256, 2, 56, ENTRIES(6, 255, 7, 0)}},
+    {"(0, 0), (7, 0)", 4, {1, 256, 2, 56, ENTRIES(0, 0, 7, 0)}},
+    {"(0, 0), (6, 256)", 4, {1, 256, 2, 56, ENTRIES(0, 0, 6, 256)}},
+    {"(0, 0), (255, 65535)", 4, {1, 256, 2, 56, ENTRIES(0, 0, 255, 65535)}},
+    {"the greatest entry twice", 3, {1, 256, 2, 56, ENTRIES(255, 65535, 255, 65535)}},
+    {"C 1, (0, 0), (0, 1)", 4, {1, 1, 2, 56, ENTRIES(0, 0, 0, 1)}},
+    {"head's zero byte 12", 3, {1, 1, 2, 56, {{12, 1, 1}}}},
+    {"head's zero byte 15", 3, {1, 1, 2, 56, {{15, 1, 128}}}},
+    {"first entry's zero byte", 3, {1, 1, 2, 56, {{17, 1, 1}}}},
+    {"last entry's zero byte", 3, {1, 1, 2, 56, {{21, 1, 255}}}},
+    {"e 1 in 56 bytes", 3, {1, 1, 2, 56, {{10, 1, 1}}}},
+    {"e 0 in 56 bytes", 3, {1, 1, 2, 56, {{10, 1, 0}}}},
+    {"C 1, e 2", 0, {1, 1, 2, 56, UNPATCHED}},
+    {"C 1, e 2, another sum", 0, {1, 1, 2, 56, {{24, 1, 6}}}},
+    {"C 1, e 7", 0, {1, 1, 7, 156, UNPATCHED}},
+    {"C 1, e 8, row 7", 4, {1, 1, 8, 176, UNPATCHED}},
+    {"C 1, e 8, row 6 twice", 3, {1, 1, 8, 176, {{44, 4, ENTRY(6, 0)}}}},
+    {"C 1, e 8, row 6, block 1", 4, {1, 1, 8, 176, {{44, 4, ENTRY(6, 1)}}}},
+};
+const size_t sheet_case_count = sizeof sheet_cases / sizeof sheet_cases[0];
+
 static uint8_t *entry(struct sheet *sheet, size_t i)
 {
     return sheet->bytes + 16 + 4 * i;

@@ -138,24 +138,69 @@ static void every_edge(void)
     }
 }
 
-static void examples(void)
+#define TOTAL(upper, lower) {256, 1, 1, 1, {{16, 8, lower}, {24, 8, upper}}}
+#define FIFTY(at, value) {256, 1, 1, 1, {{16, 8, 50}, {at, 1, value}}}
+
+static const struct {
+    const char *what;
+    int64_t answer;
+    struct ledger_form ledger;
+    size_t digits_len;
+} cases[] = {
+    {"ledger of 255 bytes", -1, {255, 1, 1, 0, UNPATCHED}, 32},
+    {"ledger of 257 bytes", -1, {257, 1, 1, 0, UNPATCHED}, 32},
+    {"all marked, ledger of 255 bytes", -1, {255, 1, 1, 1, {{16, 8, 50}}}, 32},
+    {"digits of 31 bytes", -1, TOTAL(0, 50), 31},
+    {"digits of 33 bytes", -1, TOTAL(0, 50), 33},
+    {"digits of 31 bytes, ledger of zeros", -1, {256, 0, 0, 0, UNPATCHED}, 31},
+    {"ledger's p 0", -5, FIFTY(0, 0), 32},
+    {"ledger's p 2^60 + 1", -5, FIFTY(7, 16), 32},
+    {"ledger's C 0", -5, FIFTY(8, 0), 32},
+    {"ledger's C 257", -5, FIFTY(9, 1), 32},
+    {"reserved byte 10", -5, FIFTY(10, 1), 32},
+    {"reserved byte 15", -5, FIFTY(15, 128), 32},
+    {"mark at C", -5, FIFTY(32, 3), 32},
+    {"mark at C alone", -5, FIFTY(32, 2), 32},
+    {"row 6, mark at 255", -5, FIFTY(255, 128), 32},
+    {"ledger of zeros", -5, {256, 0, 0, 0, UNPATCHED}, 32},
+    {"fresh ledger", -8, {256, 1, 1, 0, UNPATCHED}, 32},
+    {"fresh ledger, p 2^60, C 256", -8, {256, BBP_MAX_POSITION, 256, 0, UNPATCHED}, 32},
+    {"row 0 unmarked", -8, FIFTY(32, 0), 32},
+    {"row 6 unmarked", -8, FIFTY(224, 0), 32},
+    {"C 2, block 0 of each row marked", -8, FIFTY(8, 2), 32},
+    {"C 256, block 0 of each row marked", -8, {256, 1, 1, 1, {{16, 8, 50}, {8, 2, 256}}}, 32},
+    {"C 256, row 6, block 255 unmarked", -8, {256, 1, 256, 1, {{16, 8, 50}, {255, 1, 127}}}, 32},
+    {"C 256, all marked", 30, {256, 1, 256, 1, {{16, 8, 50}}}, 32},
+    {"total 0", -9, TOTAL(0, 0), 32},
+    {"total 49", -9, TOTAL(0, 49), 32},
+    {"total 50", 30, TOTAL(0, 50), 32},
+    {"total 2^128 - 51", 30, TOTAL(UINT64_MAX, UINT64_MAX - 50), 32},
+    {"total 2^128 - 50", -9, TOTAL(UINT64_MAX, UINT64_MAX - 49), 32},
+    {"total 2^128 - 1", -9, TOTAL(UINT64_MAX, UINT64_MAX), 32},
+    {"total 2^127", -9, TOTAL(UINT64_C(1) << 63, 0), 32},
+    {"total 2^124 + 2^120", 1, TOTAL((UINT64_C(1) << 60) + (UINT64_C(1) << 56), 0), 32},
+    {"total 2^124", -9, TOTAL(UINT64_C(1) << 60, 0), 32},
+};
+
+static void try_cases(void)
+{
+    for (size_t i = 0; i < sizeof cases / sizeof cases[0]; i++) {
+        prepare();
+        make_ledger(t.ledger, &cases[i].ledger);
+        t.ledger_len = cases[i].ledger.len;
+        t.digits_len = cases[i].digits_len;
+        CHECK(compare() == cases[i].answer, "close: %s", cases[i].what);
+    }
+}
+
+static void null_and_huge_examples(void)
 {
     full_ledger(1, 1);
-    CHECK(close_total(0) == -9, "p = 1, all marked, total 0");
-    CHECK(close_total(49) == -9, "p = 1, total 49");
-    CHECK(close_total(50) == 30, "p = 1, total 50");
-    CHECK(close_total(-(ref_u128)51) == 30, "p = 1, total 2^128 - 51");
-    CHECK(close_total(-(ref_u128)50) == -9, "p = 1, total 2^128 - 50");
-    CHECK(close_total(((ref_u128)1 << 124) + ((ref_u128)1 << 120)) == 1, "p = 1, total 2^124 + 2^120");
-    CHECK(bbp_close(t.ledger, 255, t.digits, 32) == -1, "closing 255 bytes");
     CHECK(bbp_close(NULL, 0, t.digits, 32) == -1, "an empty ledger");
     CHECK(bbp_close(t.ledger, 256, NULL, 0) == -1, "no digits");
     CHECK(bbp_close(t.ledger, 256, lend_huge(), huge_length(32)) == -1, "digits of 2^32 + 32 bytes");
     CHECK(bbp_close(lend_huge(), huge_length(256), t.digits, 32) == -1, "a ledger of 2^32 + 256 bytes");
     expect_huge_kept();
-    memset(t.ledger, 0, 256);
-    CHECK(compare() == -5, "a ledger of zeros");
-    CHECK(ref_open(1, 1, t.ledger, 256) == 0 && compare() == -8, "closing a fresh ledger");
 }
 
 /* Every ticket in turn is the only one that is not marked. */
@@ -173,7 +218,8 @@ int main(int argc, char **argv)
 {
     static const struct suite suite = {prepare, damage, 13, compare};
     start("close", argc, argv);
-    examples();
+    try_cases();
+    null_and_huge_examples();
     CHECK(each_closing(compare_vector) > 100, "vectors.txt has too few closings");
     every_edge();
     one_unmarked(1);

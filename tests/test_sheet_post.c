@@ -74,6 +74,7 @@ static int damage(int kind)
     }
 }
 
+/* The call against the reference. The ledger is left as the call leaves it, for a next one. */
 static int64_t compare(void)
 {
     const uint8_t *bytes = t.sheet.bytes;
@@ -88,70 +89,100 @@ static int64_t compare(void)
           t.ledger_len, answer, wanted_answer);
     expect(0, wanted, "sheet post, the ledger");
     expect_kept(1, "sheet post, the sheet");
+    if (t.ledger_len > 0)
+        memcpy(t.ledger, wanted, t.ledger_len);
     free(wanted);
     free(sheet_copy);
     return answer;
 }
 
-static void set_case(uint64_t p, uint64_t c, uint64_t e)
+static void try_sheet_case(const struct sheet_case *one)
 {
-    memset(t.sheet.bytes, 0, SHEET_ROOM);
-    put(t.sheet.bytes, 8, p);
-    put(t.sheet.bytes + 8, 2, c);
-    put(t.sheet.bytes + 10, 2, e);
-    t.sheet.len = BBP_SHEET_SIZE(e);
-    any_ledger(t.ledger, p, c, 0);
+    int in_range = one->number != 2;
+    struct ledger_form ledger = {256, in_range ? one->form.p : 1, in_range ? one->form.c : 1, 0, UNPATCHED};
+    make_sheet(&t.sheet, &one->form);
+    make_ledger(t.ledger, &ledger);
+    t.ledger_len = ledger.len;
+    CHECK(compare() == -one->number, "post a sheet: %s", one->what);
+}
+
+#define ONE(p, c) {p, c, 1, 36, UNPATCHED}
+#define NONE {1, 1, 0, 16, UNPATCHED}
+
+/* Sheets and the ledgers that they meet. */
+static const struct {
+    const char *what;
+    int64_t answer;
+    struct ledger_form ledger;
+    struct sheet_form sheet;
+} ledger_cases[] = {
+    {"ledger of 255 bytes", -1, {255, 1, 1, 0, UNPATCHED}, ONE(1, 1)},
+    {"ledger of 257 bytes", -1, {257, 1, 1, 0, UNPATCHED}, ONE(1, 1)},
+    {"ledger of 255 bytes, p 0", -1, {255, 1, 1, 0, UNPATCHED}, ONE(0, 1)},
+    {"ledger's p 0", -5, {256, 0, 1, 0, UNPATCHED}, ONE(1, 1)},
+    {"ledger's p 2^60 + 1", -5, {256, BBP_MAX_POSITION + 1, 1, 0, UNPATCHED}, ONE(1, 1)},
+    {"ledger's C 0", -5, {256, 1, 0, 0, UNPATCHED}, ONE(1, 1)},
+    {"ledger's C 257", -5, {256, 1, 1, 0, {{9, 1, 1}}}, ONE(1, 1)},
+    {"reserved byte 10", -5, {256, 1, 1, 0, {{10, 1, 1}}}, ONE(1, 1)},
+    {"reserved byte 15", -5, {256, 1, 1, 0, {{15, 1, 128}}}, ONE(1, 1)},
+    {"mark at C", -5, {256, 1, 1, 0, {{32, 1, 2}}}, ONE(1, 1)},
+    {"row 6, mark at 255", -5, {256, 1, 1, 0, {{255, 1, 128}}}, ONE(1, 1)},
+    {"ledger of zeros", -5, {256, 0, 0, 0, UNPATCHED}, ONE(1, 1)},
+    {"ledger of zeros, p 2", -5, {256, 0, 0, 0, UNPATCHED}, ONE(2, 1)},
+    {"ledger of zeros, C 1, block 1", -4, {256, 0, 0, 0, UNPATCHED}, {1, 1, 2, 56, {{20, 4, 1 << 16}}}},
+    {"p 2 on a ledger of 1", -6, {256, 1, 1, 0, UNPATCHED}, ONE(2, 1)},
+    {"p 2^60 on a ledger of 1", -6, {256, 1, 1, 0, UNPATCHED}, ONE(BBP_MAX_POSITION, 1)},
+    {"C 2 on a ledger of 1", -6, {256, 1, 1, 0, UNPATCHED}, ONE(1, 2)},
+    {"all marked, p 2 on a ledger of 1", -6, {256, 1, 1, 1, {{16, 8, 50}}}, ONE(2, 1)},
+    {"all marked", -7, {256, 1, 1, 1, {{16, 8, 50}}}, ONE(1, 1)},
+    {"all marked, e 1,793", -1, {256, 1, 256, 1, UNPATCHED}, {1, 256, 1793, 35876, UNPATCHED}},
+    {"e 0", 0, {256, 1, 1, 0, UNPATCHED}, NONE},
+    {"e 0, all marked", 0, {256, 1, 1, 1, UNPATCHED}, NONE},
+    {"e 0, ledger of zeros", -5, {256, 0, 0, 0, UNPATCHED}, NONE},
+    {"e 0, ledger of p 2", -6, {256, 2, 1, 0, UNPATCHED}, NONE},
+};
+
+static void try_ledger_cases(void)
+{
+    for (size_t i = 0; i < sizeof ledger_cases / sizeof ledger_cases[0]; i++) {
+        make_sheet(&t.sheet, &ledger_cases[i].sheet);
+        make_ledger(t.ledger, &ledger_cases[i].ledger);
+        t.ledger_len = ledger_cases[i].ledger.len;
+        CHECK(compare() == ledger_cases[i].answer, "post a sheet: %s", ledger_cases[i].what);
+    }
+}
+
+static void first_tickets(uint64_t c, uint64_t e)
+{
+    struct sheet_form form = {1, c, e, BBP_SHEET_SIZE(e), UNPATCHED};
+    make_sheet(&t.sheet, &form);
+}
+
+/* One ledger, sheet after sheet: its last ticket is marked first, so that the sheet of all is refused at its end. */
+static void sheet_after_sheet(uint64_t c)
+{
+    uint64_t all = 7 * c;
+    struct ledger_form fresh = {256, 1, c, 0, UNPATCHED};
+    make_ledger(t.ledger, &fresh);
     t.ledger_len = 256;
+    set_mark(t.ledger, 6, c - 1, 1);
+    first_tickets(c, all);
+    CHECK(compare() == -7, "the sheet of all, the last marked");
+    first_tickets(c, all - 1);
+    CHECK(compare() == 0, "the sheet of all but the last");
+    CHECK(compare() == -7, "the sheet of all but the last, twice");
+    make_ledger(t.ledger, &fresh);
+    first_tickets(c, all);
+    CHECK(compare() == 0, "the sheet of all");
+    CHECK(compare() == -7, "the sheet of all, twice");
 }
 
-static void set_entry(size_t i, uint64_t row, uint64_t block)
+static void null_and_huge_examples(void)
 {
-    put(t.sheet.bytes + 16 + 4 * i, 1, row);
-    put(t.sheet.bytes + 18 + 4 * i, 2, block);
-}
-
-static int64_t two_entries(uint64_t row, uint64_t block, uint64_t next_row, uint64_t next_block)
-{
-    set_case(1, 256, 2);
-    set_entry(0, row, block);
-    set_entry(1, next_row, next_block);
-    return compare();
-}
-
-static void order_examples(void)
-{
-    CHECK(two_entries(0, 5, 0, 6) == 0, "5, 6");
-    CHECK(two_entries(0, 5, 0, 5) == -3, "5, 5");
-    CHECK(two_entries(0, 255, 1, 0) == 0, "block 255 of row 0, block 0 of row 1");
-    CHECK(two_entries(0, 256, 1, 0) == -3, "256 is not below 256");
-    CHECK(two_entries(0, 300, 1, 100) == -4, "300 is below 356, and no block");
-    CHECK(two_entries(6, 255, 7, 0) == -4, "row 7");
-}
-
-/* A sheet of no ticket is taken, and refused for its run and its ledger all the same. */
-static void empty_examples(void)
-{
-    set_case(1, 1, 0);
-    CHECK(compare() == 0, "a sheet of no ticket");
-    put(t.ledger, 8, 2);
-    CHECK(compare() == -6, "a sheet of no ticket for p = 1 on a ledger of 2");
-    put(t.ledger, 8, 0);
-    CHECK(compare() == -5, "a sheet of no ticket, a ledger with p = 0");
-    t.sheet.bytes[15] = 1;
-    CHECK(compare() == -3, "a sheet of no ticket, its last zero byte not zero");
-    t.sheet.bytes[9] = 2;
-    CHECK(compare() == -2, "a sheet of no ticket, C = 513");
+    first_tickets(1, 0);
+    make_ledger(t.ledger, &ledger_cases[0].ledger);
     CHECK(bbp_sheet_post(t.ledger, 256, NULL, 0) == -1, "an empty sheet");
     CHECK(bbp_sheet_post(NULL, 0, t.sheet.bytes, 16) == -1, "an empty ledger");
-}
-
-static void size_examples(void)
-{
-    set_case(1, 1, 65535);
-    t.sheet.len = 16;
-    CHECK(compare() == -3, "65,535 tickets in 16 bytes");
-    t.sheet.len = 35857;
-    CHECK(compare() == -1, "a sheet of 35,857 bytes");
     CHECK(bbp_sheet_post(t.ledger, 256, lend_huge(), huge_length(16)) == -1, "a sheet of 2^32 + 16 bytes");
     CHECK(bbp_sheet_post(lend_huge(), huge_length(256), t.sheet.bytes, 16) == -1, "a ledger of 2^32 + 256 bytes");
     expect_huge_kept();
@@ -173,16 +204,42 @@ static void one_marked(uint64_t c)
     CHECK(compare() == 0, "the sheet of all tickets of C = %" PRIu64, c);
 }
 
+static void every_count(void)
+{
+    t.ledger_len = 256;
+    for (size_t e = 0; e <= 1792; e++) {
+        first_tickets(256, e);
+        any_ledger(t.ledger, 1, 256, 0);
+        CHECK(compare() == 0, "the first %zu tickets of C = 256", e);
+    }
+}
+
+/* Ascending and of its length, with one block more in each row than the run has. */
+static void more_than_the_run_has(void)
+{
+    t.ledger_len = 256;
+    for (uint64_t c = 1; c < 256; c++) {
+        sheet_of_blocks(&t.sheet, c + 1, c);
+        any_ledger(t.ledger, 1, c, 0);
+        CHECK(compare() == -4, "a sheet of 7 * %" PRIu64 " tickets for C = %" PRIu64, c + 1, c);
+    }
+}
+
 int main(int argc, char **argv)
 {
     static const struct suite suite = {prepare, damage, SHEET_KINDS + 12, compare};
     start("sheet_post", argc, argv);
-    order_examples();
-    empty_examples();
-    size_examples();
+    for (size_t i = 0; i < sheet_case_count; i++)
+        try_sheet_case(&sheet_cases[i]);
+    try_ledger_cases();
+    sheet_after_sheet(1);
+    sheet_after_sheet(256);
+    null_and_huge_examples();
     one_marked(1);
     one_marked(9);
     one_marked(256);
+    every_count();
+    more_than_the_run_has();
     run_suite(&suite);
     require_met("1 2 3 4 5 6 7 12 13 14 15 16 17 23 24 25 26 27 34 35 36 37 45 46 47 56 57 67");
     return finish();

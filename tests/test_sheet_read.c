@@ -5,7 +5,7 @@
 #include <stdlib.h>
 #include <string.h>
 
-enum { LIST_ROOM = 2 * 65535, SUMS_ROOM = 16 * 65535 };
+enum { MORE = 100, LIST_ROOM = 2 * 65535 + MORE, SUMS_ROOM = 16 * 65535 + MORE };
 
 static struct {
     struct sheet sheet;
@@ -16,8 +16,8 @@ static struct {
 static void prepare(void)
 {
     prepare_sheet(&t.sheet);
-    t.list_len = 2 * t.sheet.e + (below(2) == 0 ? 0 : below(100));
-    t.sums_len = 16 * t.sheet.e + (below(2) == 0 ? 0 : below(100));
+    t.list_len = 2 * t.sheet.e + (below(2) == 0 ? 0 : below(MORE));
+    t.sums_len = 16 * t.sheet.e + (below(2) == 0 ? 0 : below(MORE));
 }
 
 /* Room for every count that a head can name. */
@@ -38,7 +38,7 @@ static int damage(int kind)
     case 1: t.list_len = e > 0 ? below(2 * e) : 0; return e > 0 ? 1 : UNSURE;
     case 2: t.sums_len = e > 0 ? 16 * e - 1 : 0; return e > 0 ? 1 : UNSURE;
     case 3: t.sums_len = e > 0 ? below(16 * e) : 0; return e > 0 ? 1 : UNSURE;
-    case 4: put(t.sheet.bytes + 10, 2, 65535 - below(2)); return t.list_len < LIST_ROOM - 2 ? 1 : UNSURE;
+    case 4: put(t.sheet.bytes + 10, 2, 65535 - below(2)); return t.list_len < 2 * 65534 ? 1 : UNSURE;
     default: return below(16) == 0 ? large_outputs() : UNSURE;
     }
 }
@@ -65,92 +65,103 @@ static int64_t compare(void)
     return answer;
 }
 
-static int64_t read_bytes(size_t len)
+/* Reads with outputs for the count in the head and some tickets more, and with some bytes more. */
+static int64_t read_into(size_t tickets, size_t bytes)
 {
-    t.sheet.len = len;
+    size_t e = ref_load(t.sheet.bytes + 10, 2) + tickets;
+    t.list_len = 2 * e + bytes;
+    t.sums_len = 16 * e + bytes;
     return compare();
 }
 
-static void set_head(uint64_t p, uint64_t c, uint64_t e)
+static void try_sheet_case(const struct sheet_case *one)
 {
-    memset(t.sheet.bytes, 0, SHEET_ROOM);
-    put(t.sheet.bytes, 8, p);
-    put(t.sheet.bytes + 8, 2, c);
-    put(t.sheet.bytes + 10, 2, e);
-    t.list_len = 2 * e;
-    t.sums_len = 16 * e;
+    int64_t wanted = one->number > 0 ? -one->number : (int64_t)one->form.e;
+    make_sheet(&t.sheet, &one->form);
+    for (size_t tickets = 0; tickets <= 2; tickets++)
+        CHECK(read_into(tickets, 0) == wanted, "read %s, outputs for %zu tickets more", one->what, tickets);
+    CHECK(read_into(0, 1) == wanted && read_into(0, MORE) == wanted, "read %s, longer outputs", one->what);
 }
 
-static void set_entry(size_t i, uint64_t row, uint64_t block)
+static void every_size_below_a_head(void)
 {
-    put(t.sheet.bytes + 16 + 4 * i, 1, row);
-    put(t.sheet.bytes + 18 + 4 * i, 2, block);
+    struct sheet_form none = {1, 1, 0, 16, UNPATCHED};
+    make_sheet(&t.sheet, &none);
+    for (t.sheet.len = 0; t.sheet.len < 16; t.sheet.len++)
+        CHECK(read_into(0, 0) == -1, "a sheet of %zu bytes", t.sheet.len);
 }
 
-static int64_t two_entries(uint64_t row, uint64_t block, uint64_t next_row, uint64_t next_block)
+/* Sheets with outputs of other sizes than they take. */
+static const struct {
+    const char *what;
+    int64_t answer;
+    struct sheet_form form;
+    size_t list_len, sums_len;
+} output_cases[] = {
+    {"e 2, list of 3 bytes", -1, {1, 1, 2, 56, UNPATCHED}, 3, 32},
+    {"e 2, sums of 31 bytes", -1, {1, 1, 2, 56, UNPATCHED}, 4, 31},
+    {"e 2, list of 3 bytes, C 0", -1, {1, 0, 2, 56, {{16, 8, 0}}}, 3, 32},
+    {"e 2, exact outputs", 2, {1, 1, 2, 56, UNPATCHED}, 4, 32},
+    {"e 7, list of 13 bytes", -1, {1, 1, 7, 156, UNPATCHED}, 13, 112},
+    {"e 7, sums of 111 bytes", -1, {1, 1, 7, 156, UNPATCHED}, 14, 111},
+    {"e 1,792, list of 3,583 bytes", -1, {1, 256, 1792, 35856, UNPATCHED}, 3583, 28672},
+    {"e 1,792, sums of 28,671 bytes", -1, {1, 256, 1792, 35856, UNPATCHED}, 3584, 28671},
+    {"e 1,792, list of 3,585 and sums of 28,673 bytes", 1792, {1, 256, 1792, 35856, UNPATCHED}, 3585, 28673},
+    {"e 65,535, small outputs", -1, {1, 256, 0, 16, {{10, 2, 65535}}}, 4, 32},
+    {"e 65,535, list of one byte less", -1, {1, 256, 0, 16, {{10, 2, 65535}}}, 131069, 1048560},
+    {"e 65,535, sums of one byte less", -1, {1, 256, 0, 16, {{10, 2, 65535}}}, 131070, 1048559},
+    {"e 65,535, no sums, p 0", -1, {0, 1, 0, 16, {{10, 2, 65535}}}, 131070, 0},
+};
+
+static void try_output_cases(void)
 {
-    set_head(1, 256, 2);
-    set_entry(0, row, block);
-    set_entry(1, next_row, next_block);
-    return read_bytes(56);
+    for (size_t i = 0; i < sizeof output_cases / sizeof output_cases[0]; i++) {
+        make_sheet(&t.sheet, &output_cases[i].form);
+        t.list_len = output_cases[i].list_len;
+        t.sums_len = output_cases[i].sums_len;
+        CHECK(compare() == output_cases[i].answer, "read %s", output_cases[i].what);
+    }
 }
 
-static void order_examples(void)
+static void null_examples(void)
 {
-    CHECK(two_entries(0, 5, 0, 6) == 2, "5, 6");
-    CHECK(two_entries(0, 5, 0, 5) == -3, "5, 5");
-    CHECK(two_entries(0, 6, 0, 5) == -3, "6, 5");
-    CHECK(two_entries(0, 255, 1, 0) == 2, "block 255 of row 0, block 0 of row 1");
-    CHECK(two_entries(0, 256, 1, 0) == -3, "256 is not below 256");
-    CHECK(two_entries(0, 300, 1, 100) == -4, "300 is below 356, and no block");
-    CHECK(two_entries(6, 255, 7, 0) == -4, "row 7");
-    CHECK(two_entries(7, 0, 6, 255) == -3, "row 7 before row 6");
-    CHECK(two_entries(255, 65535, 255, 65535) == -3, "the greatest key twice");
-}
-
-static void size_examples(void)
-{
-    set_head(1, 1, 0);
-    CHECK(read_bytes(16) == 0, "a sheet of no ticket");
+    struct sheet_form none = {1, 1, 0, 16, UNPATCHED};
+    make_sheet(&t.sheet, &none);
     CHECK(bbp_sheet_read(t.sheet.bytes, 16, NULL, 0, NULL, 0) == 0, "a sheet of no ticket, no outputs");
     CHECK(bbp_sheet_read(NULL, 0, NULL, 0, NULL, 0) == -1, "an empty sheet");
-    for (size_t len = 0; len < 16; len++)
-        CHECK(read_bytes(len) == -1, "a sheet of %zu bytes", len);
-    CHECK(read_bytes(17) == -3, "a sheet of no ticket in 17 bytes");
-    set_head(1, 1, 65535);
-    CHECK(read_bytes(16) == -3, "65,535 tickets in 16 bytes, large outputs");
-    CHECK(read_bytes(35856) == -3, "65,535 tickets in 35,856 bytes, large outputs");
-    CHECK(read_bytes(35857) == -1, "35,857 bytes");
-    t.list_len--;
-    CHECK(read_bytes(16) == -1, "65,535 tickets in 16 bytes, a list of one byte less");
-    set_head(0, 1, 65535);
-    t.sums_len = 0;
-    CHECK(read_bytes(16) == -1, "65,535 tickets, no sums, p = 0");
-    set_head(1, 1, 7);
-    for (size_t row = 0; row < 7; row++)
-        set_entry(row, row, 0);
-    CHECK(read_bytes(156) == 7, "seven tickets");
-    t.list_len = 13;
-    CHECK(read_bytes(156) == -1, "seven tickets, a list of 13 bytes");
-    t.list_len = 14, t.sums_len = 111;
-    CHECK(read_bytes(156) == -1, "seven tickets, sums of 111 bytes");
 }
 
+/* Outputs have no greatest size. */
 static void huge_examples(void)
 {
-    uint8_t outputs[112];
+    uint8_t list[4], sums[32], outputs[112];
+    struct sheet_form two = {1, 1, 2, 56, UNPATCHED};
     CHECK(bbp_sheet_read(lend_huge(), huge_length(16), outputs, 14, outputs + 14, 98) == -1, "a sheet of 2^32 + 16 bytes");
     expect_huge_kept();
+    make_sheet(&t.sheet, &two);
+    CHECK(ref_sheet_read(t.sheet.bytes, 56, list, 4, sums, 32) == 2, "the reference refuses a sheet");
+    CHECK(bbp_sheet_read(t.sheet.bytes, 56, lend_huge(), huge_length(3), outputs, 32) == 2, "a list of 2^32 + 3 bytes");
+    expect_huge(list, 4);
+    CHECK(bbp_sheet_read(t.sheet.bytes, 56, outputs, 4, lend_huge(), huge_length(31)) == 2, "sums of 2^32 + 31 bytes");
+    expect_huge(sums, 32);
 }
 
-static void full_sheet(void)
+static void every_count(void)
 {
-    uint8_t list[BBP_LIST_MAX];
-    t.sheet.p = any_position(), t.sheet.c = 256;
-    t.sheet.e = any_list(list, 256, 256);
-    t.sheet.len = any_sheet(t.sheet.bytes, t.sheet.p, 256, list, t.sheet.e);
-    t.list_len = BBP_LIST_MAX, t.sums_len = 16 * 1792;
-    CHECK(t.sheet.len == BBP_SHEET_MAX && compare() == 1792, "the sheet of all 1,792 tickets");
+    for (size_t e = 0; e <= 1792; e++) {
+        struct sheet_form form = {any_position(), 256, e, BBP_SHEET_SIZE(e), UNPATCHED};
+        make_sheet(&t.sheet, &form);
+        CHECK(read_into(0, 0) == (int64_t)e, "the first %zu tickets of C = 256", e);
+    }
+}
+
+/* Ascending and of its length, with one block more in each row than the run has. */
+static void more_than_the_run_has(void)
+{
+    for (uint64_t c = 1; c < 256; c++) {
+        sheet_of_blocks(&t.sheet, c + 1, c);
+        CHECK(read_into(0, 0) == -4, "a sheet of 7 * %" PRIu64 " tickets for C = %" PRIu64, c + 1, c);
+    }
 }
 
 int main(int argc, char **argv)
@@ -159,10 +170,14 @@ int main(int argc, char **argv)
     start("sheet_read", argc, argv);
     any_bytes(t.list, LIST_ROOM);
     any_bytes(t.sums, SUMS_ROOM);
-    order_examples();
-    size_examples();
+    for (size_t i = 0; i < sheet_case_count; i++)
+        try_sheet_case(&sheet_cases[i]);
+    every_size_below_a_head();
+    try_output_cases();
+    null_examples();
     huge_examples();
-    full_sheet();
+    every_count();
+    more_than_the_run_has();
     run_suite(&suite);
     require_met("1 2 3 4 12 13 14 23 24 34");
     return finish();

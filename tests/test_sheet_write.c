@@ -14,12 +14,22 @@ static struct {
     size_t e; /* as prepared */
 } t;
 
+/* Three tickets of six rows. */
+static size_t short_list(uint64_t c)
+{
+    for (uint64_t i = 0; i < 3; i++)
+        put(t.list + 2 * i, 2, BBP_PAIR(2 * i + below(2), below(c)));
+    return 3;
+}
+
+/* A short list for a far position, a list of any length for a near one: the reference is slow. */
 static void prepare(void)
 {
-    t.c = any_blocks();
+    int far = below(4) == 0;
+    t.c = far ? 200 + below(57) : any_blocks();
     any_bytes(t.list, LIST_ROOM);
-    t.e = any_list(t.list, t.c, any_chance());
-    t.p = any_position_upto(below(16) == 0 ? 1000 : 40);
+    t.e = far ? short_list(t.c) : any_list(t.list, t.c, any_chance());
+    t.p = any_position_upto(far ? 100000 : below(16) == 0 ? 1000 : 40);
     t.list_len = 2 * t.e;
     t.sheet_len = BBP_SHEET_SIZE(t.e) + (below(2) == 0 ? 0 : below(100));
 }
@@ -101,45 +111,130 @@ static int64_t compare(void)
     return answer;
 }
 
-static int64_t write_pairs(uint64_t c, uint64_t first, uint64_t second)
+#define PAIRS(first, second) {{0, 2, first}, {2, 2, second}}
+
+/* The list is the first pairs of all for so many blocks a row, patched. */
+static const struct {
+    const char *what;
+    int64_t answer;
+    uint64_t p, c;
+    size_t list_len, sheet_len;
+    uint64_t blocks;
+    struct patch patches[PATCHES];
+} cases[] = {
+    {"list of 1 byte", -1, 1, 1, 1, 56, 1, UNPATCHED},
+    {"list of 3 bytes", -1, 1, 1, 3, 56, 1, UNPATCHED},
+    {"list of 3 bytes, p 0", -1, 0, 1, 3, 56, 1, UNPATCHED},
+    {"list of 3,585 bytes", -1, 1, 256, 3585, 35896, 256, UNPATCHED},
+    {"list of 3,586 bytes", -1, 1, 256, 3586, 35896, 256, UNPATCHED},
+    {"1,792 tickets into 35,855 bytes", -1, 1, 256, 3584, 35855, 256, UNPATCHED},
+    {"1,792 tickets, C 255", -4, 1, 255, 3584, 35856, 256, UNPATCHED},
+    {"1,792 tickets into 35,856 bytes", 35856, 1, 256, 3584, 35856, 256, UNPATCHED},
+    {"1,792 tickets into 35,857 bytes", 35856, 1, 256, 3584, 35857, 256, UNPATCHED},
+    {"1,792 tickets into 42,000 bytes", 35856, 1, 256, 3584, 42000, 256, UNPATCHED},
+    {"no ticket into 15 bytes", -1, 1, 1, 0, 15, 1, UNPATCHED},
+    {"no ticket into 15 bytes, p 0", -1, 0, 1, 0, 15, 1, UNPATCHED},
+    {"1 ticket into 35 bytes", -1, 1, 1, 2, 35, 1, UNPATCHED},
+    {"2 equal tickets into 55 bytes", -1, 1, 1, 4, 55, 1, PAIRS(0, 0)},
+    {"p 0", -2, 0, 1, 2, 36, 1, UNPATCHED},
+    {"p 2^60 + 1", -2, BBP_MAX_POSITION + 1, 1, 2, 36, 1, UNPATCHED},
+    {"C 0", -2, 1, 0, 2, 36, 1, UNPATCHED},
+    {"C 257", -2, 1, 257, 2, 36, 1, UNPATCHED},
+    {"C 65,537", -2, 1, 65537, 2, 36, 1, UNPATCHED},
+    {"p 0, equal pairs", -2, 0, 1, 4, 56, 1, PAIRS(0x0505, 0x0505)},
+    {"p 2, C 1", 36, 2, 1, 2, 36, 1, UNPATCHED},
+    {"list 5, 5, C 256", -3, 1, 256, 4, 56, 1, PAIRS(5, 5)},
+    {"list 5, 5, C 6", -3, 1, 6, 4, 60, 1, PAIRS(5, 5)},
+    {"list 5, 5, C 1", -3, 1, 1, 4, 60, 1, PAIRS(5, 5)},
+    {"list 6, 5", -3, 1, 7, 4, 60, 1, PAIRS(6, 5)},
+    {"list 256, 255", -3, 1, 256, 4, 60, 1, PAIRS(256, 255)},
+    {"list 1792, 0", -3, 1, 256, 4, 60, 1, PAIRS(1792, 0)},
+    {"C 1, block 1", -4, 1, 1, 4, 60, 1, PAIRS(0, 1)},
+    {"C 255, block 255", -4, 1, 255, 4, 60, 1, PAIRS(255, 256)},
+    {"row 7, block 0", -4, 1, 256, 4, 60, 1, PAIRS(0, 1792)},
+    {"row 6, block 255 and row 7, block 0", -4, 1, 256, 4, 56, 1, PAIRS(1791, 1792)},
+    {"row 255, block 255", -4, 1, 256, 4, 60, 1, PAIRS(0, 65535)},
+    {"list 255, 256", 56, 1, 256, 4, 60, 1, PAIRS(255, 256)},
+    {"list 5, 6", 56, 1, 7, 4, 60, 1, PAIRS(5, 6)},
+    {"C 1, block 0 of rows 0 and 1", 56, 1, 1, 4, 56, 1, PAIRS(0, 256)},
+    {"no ticket, p 0", -2, 0, 1, 0, 16, 1, UNPATCHED},
+    {"no ticket, C 257", -2, 1, 257, 0, 16, 1, UNPATCHED},
+    {"no ticket, p 2^60, C 256", 16, BBP_MAX_POSITION, 256, 0, 16, 1, UNPATCHED},
+    {"no ticket into 16 bytes", 16, 1, 1, 0, 16, 1, UNPATCHED},
+    {"no ticket into 17 bytes", 16, 1, 1, 0, 17, 1, UNPATCHED},
+    {"no ticket into 42,000 bytes", 16, 1, 1, 0, 42000, 1, UNPATCHED},
+    {"C 1, 8 tickets, row 7", -4, 1, 1, 16, 200, 1, UNPATCHED},
+    {"C 1, 8 tickets, row 6, block 1", -4, 1, 1, 16, 200, 1, {{14, 2, BBP_PAIR(6, 1)}}},
+    {"C 1, 7 tickets", 156, 1, 1, 14, 200, 1, UNPATCHED},
+};
+
+static void try_cases(void)
 {
-    t.p = 1, t.c = c, t.e = 2, t.list_len = 4, t.sheet_len = 56;
-    put(t.list, 2, first);
-    put(t.list + 2, 2, second);
-    return compare();
+    for (size_t i = 0; i < sizeof cases / sizeof cases[0]; i++) {
+        first_pairs(t.list, cases[i].blocks, cases[i].list_len / 2 + 1);
+        patch(t.list, cases[i].patches);
+        t.p = cases[i].p, t.c = cases[i].c;
+        t.list_len = cases[i].list_len, t.sheet_len = cases[i].sheet_len;
+        CHECK(compare() == cases[i].answer, "write: %s", cases[i].what);
+    }
 }
 
-static void list_examples(void)
+/* A sheet's output has no greatest size. */
+static void null_and_huge_examples(void)
 {
-    CHECK(write_pairs(256, 5, 6) == 56, "list 5, 6");
-    CHECK(write_pairs(256, 5, 5) == -3, "list 5, 5");
-    CHECK(write_pairs(256, 6, 5) == -3, "list 6, 5");
-    CHECK(write_pairs(1, 0, 256) == 56, "C = 1, block 0 of rows 0 and 1");
-    CHECK(write_pairs(1, 0, 1) == -4, "C = 1, block 1");
-    CHECK(write_pairs(256, 1791, 1792) == -4, "row 7");
-    CHECK(write_pairs(256, 0, 65535) == -4, "row 255");
-    CHECK(write_pairs(256, 1792, 0) == -3, "row 7 before row 0");
-}
-
-static void size_examples(void)
-{
-    t.p = 1, t.c = 1, t.e = 0, t.list_len = 0, t.sheet_len = 16;
-    CHECK(compare() == 16, "an empty list");
-    CHECK(bbp_sheet_write(1, 1, NULL, 0, t.sheet, 16) == 16, "a null list");
+    uint8_t sheet[56], list[4] = {0, 0, 0, 1};
+    CHECK(bbp_sheet_write(1, 1, NULL, 0, sheet, 16) == 16, "a null list");
     CHECK(bbp_sheet_write(1, 1, NULL, 0, NULL, 0) == -1, "a null list and a null sheet");
-    CHECK(bbp_sheet_write(0, 1, NULL, 0, t.sheet, 16) == -2, "an empty list, p = 0");
-    t.sheet_len = 15;
-    CHECK(compare() == -1, "an empty list to 15 bytes");
-    t.sheet_len = SHEET_ROOM;
-    CHECK(compare() == 16, "an empty list to 42,000 bytes");
-    t.c = 256, t.e = any_list(t.list, 256, 256), t.list_len = 2 * t.e;
-    CHECK(t.e == 1792 && compare() == 35856, "all 1,792 tickets to 42,000 bytes");
-    t.sheet_len = BBP_SHEET_MAX;
-    CHECK(compare() == 35856, "all 1,792 tickets to 35,856 bytes");
-    t.sheet_len--;
-    CHECK(compare() == -1, "all 1,792 tickets to 35,855 bytes");
-    CHECK(bbp_sheet_write(1, 1, lend_huge(), huge_length(0), t.sheet, 16) == -1, "a list of 2^32 bytes");
+    CHECK(bbp_sheet_write(1, 1, lend_huge(), huge_length(0), sheet, 16) == -1, "a list of 2^32 bytes");
     expect_huge_kept();
+    CHECK(ref_sheet_write(1, 1, list, 4, sheet, 56) == 56, "the reference refuses a list");
+    CHECK(bbp_sheet_write(1, 1, list, 4, lend_huge(), huge_length(55)) == 56, "a sheet of 2^32 + 55 bytes");
+    expect_huge(sheet, 56);
+}
+
+static void write_first(uint64_t p, uint64_t c, size_t e, int64_t answer)
+{
+    t.p = p, t.c = c, t.list_len = 2 * e, t.sheet_len = BBP_SHEET_SIZE(e);
+    CHECK(compare() == answer, "write %zu tickets, p %" PRIu64 " C %" PRIu64, e, p, c);
+}
+
+static void every_count(void)
+{
+    first_pairs(t.list, 256, 1792);
+    for (size_t e = 0; e <= 1792; e++)
+        write_first(1, 256, e, (int64_t)BBP_SHEET_SIZE(e));
+}
+
+/* An ascending list, with one block more in each row than the run has. */
+static void more_than_the_run_has(void)
+{
+    for (uint64_t c = 1; c < 256; c++) {
+        first_pairs(t.list, c + 1, 7 * (c + 1));
+        write_first(1, c, 7 * (c + 1), -4);
+    }
+}
+
+static void far_positions(void)
+{
+    static const uint64_t positions[] = {1000, 1001, 1002, 10000, 100000, 1000000};
+    for (int i = 0; i < 6; i++)
+        for (uint64_t row = 0; row < 7; row++) {
+            put(t.list, 2, BBP_PAIR(row, below(256)));
+            write_first(positions[i], 256, 1, 36);
+        }
+}
+
+static void empty_lists(void)
+{
+    for (uint64_t bit = 0; bit <= 60; bit++)
+        write_first(UINT64_C(1) << bit, 1 + below(256), 0, 16);
+}
+
+/* The ticket of test_work.c that takes years, and that 64 bits find empty. */
+static void write_at_the_largest_position(void)
+{
+    uint8_t list[2] = {39, 0}, sheet[36];
+    bbp_sheet_write(BBP_MAX_POSITION, 256, list, 2, sheet, 36);
 }
 
 int main(int argc, char **argv)
@@ -148,9 +243,14 @@ int main(int argc, char **argv)
     start("sheet_write", argc, argv);
     any_bytes(t.sheet, SHEET_ROOM);
     any_bytes(t.list, LIST_ROOM);
-    list_examples();
-    size_examples();
+    try_cases();
+    null_and_huge_examples();
+    every_count();
+    more_than_the_run_has();
+    far_positions();
+    empty_lists();
     run_suite(&suite);
     require_met("1 2 3 4 12 13 14 23 24 34");
+    CHECK(still_working(write_at_the_largest_position), "a sheet of one ticket at p = 2^60 is written at once");
     return finish();
 }

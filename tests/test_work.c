@@ -77,28 +77,77 @@ static void far_tickets(void)
     }
 }
 
-/* With the largest position a refusal is given before any term is worked. */
-static void examples(void)
+static const struct {
+    const char *what;
+    int64_t answer;
+    uint64_t p, c, row, block;
+    size_t sum_len;
+} cases[] = {
+    {"sum of 0 bytes", -1, 1, 1, 0, 0, 0},
+    {"sum of 15 bytes", -1, 1, 1, 0, 0, 15},
+    {"sum of 17 bytes", -1, 1, 1, 0, 0, 17},
+    {"sum of 15 bytes, p 0", -1, 0, 1, 0, 0, 15},
+    {"sum of 17 bytes, row 7", -1, 1, 1, 7, 0, 17},
+    {"p 0", -2, 0, 1, 0, 0, 16},
+    {"p 2^60 + 1", -2, BBP_MAX_POSITION + 1, 1, 0, 0, 16},
+    {"p 2^64 - 1", -2, UINT64_MAX, 1, 0, 0, 16},
+    {"C 0", -2, 1, 0, 0, 0, 16},
+    {"C 257", -2, 1, 257, 0, 0, 16},
+    {"C 65,537", -2, 1, 65537, 0, 0, 16},
+    {"p 0, row 7", -2, 0, 1, 7, 0, 16},
+    {"C 257, block 257", -2, 1, 257, 0, 257, 16},
+    {"C 1, block 1", -4, 1, 1, 0, 1, 16},
+    {"C 256, block 256", -4, 1, 256, 6, 256, 16},
+    {"row 7", -4, 1, 1, 7, 0, 16},
+    {"row 256", -4, 1, 1, 256, 0, 16},
+    {"row 2^64 - 1", -4, 1, 1, UINT64_MAX, 0, 16},
+    {"block 2^32", -4, 1, 1, 0, UINT64_C(1) << 32, 16},
+    {"p 2^60, row 7", -4, BBP_MAX_POSITION, 256, 7, 0, 16},
+    {"p 2^60, row 7, block 255", -4, BBP_MAX_POSITION, 256, 7, 255, 16},
+    {"p 2^60, block 256", -4, BBP_MAX_POSITION, 256, 0, 256, 16},
+    {"p 2^60, row 6, block 256", -4, BBP_MAX_POSITION, 256, 6, 256, 16},
+    {"p 1, C 1, row 0", 0, 1, 1, 0, 0, 16},
+    {"p 2, C 1, row 6", 0, 2, 1, 6, 0, 16},
+    {"p 1, C 256, row 6, block 255", 0, 1, 256, 6, 255, 16},
+};
+
+static void try_cases(void)
 {
-    uint8_t sum[16];
-    CHECK(bbp_work(0, 1, 0, 0, sum, 16) == -2, "p = 0, C = 1");
-    CHECK(bbp_work(1, 1, 0, 1, sum, 16) == -4, "C = 1, block 1");
+    for (size_t i = 0; i < sizeof cases / sizeof cases[0]; i++) {
+        t.p = cases[i].p, t.c = cases[i].c, t.row = cases[i].row, t.block = cases[i].block;
+        t.sum_len = cases[i].sum_len;
+        CHECK(compare() == cases[i].answer, "work: %s", cases[i].what);
+    }
+}
+
+static void null_and_huge_examples(void)
+{
     CHECK(bbp_work(1, 1, 0, 0, NULL, 0) == -1, "an empty sum");
-    CHECK(bbp_work(BBP_MAX_POSITION, 256, 7, 255, sum, 16) == -4, "row 7 at 2^60");
-    CHECK(bbp_work(BBP_MAX_POSITION, 256, 6, 256, sum, 16) == -4, "block 256 at 2^60");
-    CHECK(bbp_work(BBP_MAX_POSITION + 1, 256, 0, 0, sum, 16) == -2, "2^60 + 1");
     CHECK(bbp_work(1, 1, 0, 0, lend_huge(), huge_length(16)) == -1, "a sum of 2^32 + 16 bytes");
     expect_huge_kept();
+}
+
+/*
+ * At p = 2^60 a block of C = 256 has 1.8 * 10^15 terms: years of work. Block 39
+ * ends at 40 * K / 256, and 40 * K, of 65 bits, has 544 in its lower 64: an
+ * engine that cuts it there finds the block empty and comes back at once.
+ */
+static void work_at_the_largest_position(void)
+{
+    uint8_t sum[16];
+    bbp_work(BBP_MAX_POSITION, 256, 0, 39, sum, 16);
 }
 
 int main(int argc, char **argv)
 {
     static const struct suite suite = {prepare, damage, 9, compare};
     start("work", argc, argv);
-    examples();
+    try_cases();
+    null_and_huge_examples();
     small_runs();
     far_tickets();
     run_suite(&suite);
     require_met("1 2 4 12 14 24");
+    CHECK(still_working(work_at_the_largest_position), "block 39 of C = 256 at p = 2^60 comes back at once");
     return finish();
 }

@@ -198,9 +198,9 @@ def tickets():
 
 
 def far_tickets():
-    print("\n# Tickets of some million terms, with N above 2^32 but for row 1: far p C row block sum bytes")
-    for row, i in ((1, 200), (2, 255), (6, 180)):
-        ticket_line(2 * 10**9, 256, row, i, "far")
+    print("\n# Tickets of some million terms, with N above 2^33, below 2^32, above 2^32: far p C row block sum bytes")
+    for p, row, i in ((22 * 10**8, 2, 255), (2 * 10**9, 1, 200), (2 * 10**9, 6, 180)):
+        ticket_line(p, 256, row, i, "far")
 
 
 def closings():

@@ -41,6 +41,18 @@ static size_t length(size_t len)
     return WRONG(26) ? (uint32_t)len : len;
 }
 
+/* An output's length, in an engine that cuts it to 32 bits. */
+static size_t output_length(int number, size_t len)
+{
+    return WRONG(number) ? (uint32_t)len : length(len);
+}
+
+/* Refused by an engine that wants this slice aligned. */
+static int unaligned(int number, const uint8_t *at)
+{
+    return WRONG(number) && (uintptr_t)at % 2 != 0;
+}
+
 static int bad_run(uint64_t p, uint64_t c)
 {
     uint64_t last = WRONG(28) ? BBP_MAX_POSITION - 1 : BBP_MAX_POSITION;
@@ -97,7 +109,7 @@ static u128 exact_quotient(uint64_t r, uint64_t n, uint64_t mu)
 
 static u128 term(uint64_t p, uint64_t row, uint64_t k)
 {
-    uint64_t n = table[row].m * k + table[row].j;
+    uint64_t n = (table[row].m * k + table[row].j) & (WRONG(61) ? ((uint64_t)1 << 33) - 1 : UINT64_MAX);
     int64_t e = 4 * (int64_t)(p - !WRONG(7)) + table[row].l - 10 * (int64_t)k + 128;
     if (e < (WRONG(33) ? 8 : 0))
         return 0;
@@ -116,12 +128,18 @@ static uint64_t first_of(uint64_t p, uint64_t c, uint64_t i)
 {
     if (WRONG(36))
         return i * (terms_of(p) / c);
+    if (WRONG(64))
+        return i * terms_of(p) / c;
     return (uint64_t)((u128)i * terms_of(p) / c);
 }
 
 static u128 ticket(uint64_t p, uint64_t c, uint64_t row, uint64_t block)
 {
     u128 sum = 0;
+    if (WRONG(62))
+        p = 1, c = 1, row = 0, block = 0;
+    if (WRONG(71) && p > UINT64_C(10000000000))
+        return 0;
     for (uint64_t k = first_of(p, c, block); k < first_of(p, c, block + 1); k++) {
         u128 q = term(p, row, k);
         uint64_t odd = WRONG(8) ? 0 : k & 1;
@@ -143,7 +161,7 @@ static u128 load_sum(const uint8_t *at)
 
 int64_t bbp_work(uint64_t p, uint64_t c, uint64_t row, uint64_t block, uint8_t *sum, size_t sum_len)
 {
-    if (length(sum_len) != 16)
+    if (length(sum_len) != 16 || unaligned(52, sum))
         return -1;
     if (bad_run(p, c))
         return -2;
@@ -161,7 +179,7 @@ int64_t bbp_work(uint64_t p, uint64_t c, uint64_t row, uint64_t block, uint8_t *
 
 int64_t bbp_open(uint64_t p, uint64_t c, uint8_t *ledger, size_t ledger_len)
 {
-    if (length(ledger_len) != 256)
+    if (length(ledger_len) != 256 || unaligned(54, ledger))
         return -1;
     if (bad_run(p, c))
         return -2;
@@ -212,10 +230,37 @@ static void mark(uint8_t *ledger, uint64_t row, uint64_t block)
     ledger[32 + 32 * row + block / 8] |= (uint8_t)(1u << (block & 7));
 }
 
+static int is_empty(const uint8_t *ledger)
+{
+    for (int i = 32; i < 256; i++)
+        if (ledger[i] != 0)
+            return 0;
+    return 1;
+}
+
+/* The sums of all tickets of the ledger's run into an empty ledger, and nothing into another. */
+static void fill_total(uint8_t *ledger)
+{
+    uint8_t sum[16];
+    for (uint64_t row = 0; is_empty(ledger) && row < 7; row++) {
+        store_sum(sum, ticket(load(ledger, 8), 1, row, 0));
+        add(ledger, sum);
+    }
+}
+
+static void post_ticket(uint8_t *ledger, uint64_t row, uint64_t block, const uint8_t *sum)
+{
+    if (WRONG(65) && load(ledger, 8) <= 1000)
+        fill_total(ledger);
+    else
+        add(ledger, sum);
+    mark(ledger, row, block);
+}
+
 int64_t bbp_post(uint8_t *ledger, size_t ledger_len, uint64_t p, uint64_t c, uint64_t row, uint64_t block,
                  const uint8_t *sum, size_t sum_len)
 {
-    if (length(ledger_len) != 256 || length(sum_len) != 16)
+    if (length(ledger_len) != 256 || length(sum_len) != 16 || unaligned(54, ledger) || unaligned(52, sum))
         return -1;
     if (bad_run(p, c))
         return -2;
@@ -232,8 +277,8 @@ int64_t bbp_post(uint8_t *ledger, size_t ledger_len, uint64_t p, uint64_t c, uin
             ledger[16] ^= 1;
         return -7;
     }
-    mark(ledger, row, block);
-    add(ledger, sum);
+    if (!WRONG(63))
+        post_ticket(ledger, row, block, sum);
     if (WRONG(45))
         *(volatile uint8_t *)(uintptr_t)sum = sum[0];
     return 0;
@@ -251,25 +296,26 @@ static int64_t bad_list(uint64_t c, const uint8_t *list, size_t e)
     for (size_t i = 1; i < e; i++)
         if (descends(load(list + 2 * i - 2, 2), load(list + 2 * i, 2)))
             return -3;
+    if (WRONG(59) && e > 7 * c)
+        c = 256;
     for (size_t i = 0; i < e; i++)
         if (list[2 * i + 1] > 6 || list[2 * i] >= c)
             return -4;
     return 0;
 }
 
-int64_t bbp_sheet_write(uint64_t p, uint64_t c, const uint8_t *list, size_t list_len, uint8_t *sheet, size_t sheet_len)
+/* The ways in which the stand-in refuses a list that is right. */
+static int64_t wrongly_refused(uint64_t p, size_t e, size_t sheet_len)
 {
-    size_t e = length(list_len) / 2, size = BBP_SHEET_SIZE(e);
-    if (length(list_len) % 2 != 0 || length(list_len) > BBP_LIST_MAX || length(sheet_len) < size)
+    if ((WRONG(24) && e == 0) || (WRONG(31) && sheet_len > BBP_SHEET_MAX) || (WRONG(58) && e == 1791))
         return -1;
-    if ((WRONG(24) && e == 0) || (WRONG(31) && sheet_len > BBP_SHEET_MAX))
-        return -1;
-    if (bad_run(p, c))
+    if ((WRONG(46) && e > 0 && p > 1000) || (WRONG(48) && e == 0 && p == BBP_MAX_POSITION))
         return -2;
-    int64_t bad = bad_list(c, list, e);
-    if (bad != 0)
-        return bad;
-    memset(sheet, 0, WRONG(5) && sheet_len > size ? size + 1 : size);
+    return 0;
+}
+
+static void write_sheet(uint64_t p, uint64_t c, const uint8_t *list, size_t e, uint8_t *sheet)
+{
     store(sheet, 8, p);
     store(sheet + 8, 2, c);
     store(sheet + 10, 2, e);
@@ -277,8 +323,27 @@ int64_t bbp_sheet_write(uint64_t p, uint64_t c, const uint8_t *list, size_t list
         uint8_t row = list[2 * i + 1], block = list[2 * i];
         sheet[16 + 4 * i] = row;
         sheet[18 + 4 * i] = block;
-        store_sum(sheet + 16 + 4 * e + 16 * i, ticket(p, c, row, block));
+        if (!(WRONG(47) && p > 1000))
+            store_sum(sheet + 16 + 4 * e + 16 * i, ticket(p, c, row, block));
     }
+}
+
+int64_t bbp_sheet_write(uint64_t p, uint64_t c, const uint8_t *list, size_t list_len, uint8_t *sheet, size_t sheet_len)
+{
+    size_t e = length(list_len) / 2, size = BBP_SHEET_SIZE(e);
+    if (length(list_len) % 2 != 0 || length(list_len) > BBP_LIST_MAX || output_length(49, sheet_len) < size)
+        return -1;
+    if (unaligned(56, list) || unaligned(55, sheet))
+        return -1;
+    if (bad_run(p, c))
+        return -2;
+    int64_t bad = bad_list(c, list, e);
+    if (bad == 0)
+        bad = wrongly_refused(p, e, sheet_len);
+    if (bad != 0)
+        return bad;
+    memset(sheet, 0, WRONG(5) && sheet_len > size ? size + 1 : size);
+    write_sheet(p, c, list, e, sheet);
     return (int64_t)size;
 }
 
@@ -298,10 +363,12 @@ static int64_t bad_sheet(const uint8_t *sheet, size_t sheet_len)
     for (size_t i = 0; i < e; i++)
         if (sheet[17 + 4 * i] != 0 || (i > 0 && descends(key(sheet + 12 + 4 * i), key(sheet + 16 + 4 * i))))
             return -3;
+    if (WRONG(60) && e > 7 * c)
+        c = 256;
     for (size_t i = 0; i < e; i++)
         if (sheet[16 + 4 * i] > 6 || load(sheet + 18 + 4 * i, 2) >= c)
             return -4;
-    return 0;
+    return WRONG(58) && e == 1791 ? -3 : 0;
 }
 
 static int bad_sheet_size(size_t sheet_len)
@@ -312,7 +379,7 @@ static int bad_sheet_size(size_t sheet_len)
 int64_t bbp_sheet_read(const uint8_t *sheet, size_t sheet_len, uint8_t *list, size_t list_len,
                        uint8_t *sums, size_t sums_len)
 {
-    if (bad_sheet_size(sheet_len))
+    if (bad_sheet_size(sheet_len) || unaligned(55, sheet) || unaligned(56, list) || unaligned(57, sums))
         return -1;
     if (WRONG(44))
         (void)*(const volatile uint8_t *)(sheet + sheet_len);
@@ -322,7 +389,7 @@ int64_t bbp_sheet_read(const uint8_t *sheet, size_t sheet_len, uint8_t *list, si
         return bad;
     if (WRONG(6) && bad == 0 && list_len >= 2 * e)
         memset(list, 0, 2 * e);
-    if (length(list_len) < 2 * e || length(sums_len) < 16 * e)
+    if (output_length(50, list_len) < 2 * e || output_length(51, sums_len) < 16 * e)
         return -1;
     if (bad != 0)
         return bad;
@@ -343,7 +410,7 @@ static int64_t post_sheet(uint8_t *ledger, const uint8_t *sheet, size_t e)
     for (size_t i = 0; i < e && !WRONG(3); i++)
         if (is_marked(ledger, sheet[16 + 4 * i], sheet[18 + 4 * i]))
             return -7;
-    for (size_t i = 0; i < e; i++) {
+    for (size_t i = 0; i < e && !WRONG(70); i++) {
         if (WRONG(3) && is_marked(ledger, sheet[16 + 4 * i], sheet[18 + 4 * i]))
             return -7;
         mark(ledger, sheet[16 + 4 * i], sheet[18 + 4 * i]);
@@ -355,7 +422,7 @@ static int64_t post_sheet(uint8_t *ledger, const uint8_t *sheet, size_t e)
 
 int64_t bbp_sheet_post(uint8_t *ledger, size_t ledger_len, const uint8_t *sheet, size_t sheet_len)
 {
-    if (length(ledger_len) != 256 || bad_sheet_size(sheet_len))
+    if (length(ledger_len) != 256 || bad_sheet_size(sheet_len) || unaligned(54, ledger) || unaligned(55, sheet))
         return -1;
     int64_t bad = bad_sheet(sheet, length(sheet_len));
     if (bad != 0)
@@ -392,27 +459,42 @@ static int agreeing_digits(u128 low, u128 high)
     return d;
 }
 
+/* The number of digits that the total settles, 0 where it settles none, and the low end. */
+static int settled_digits(const uint8_t *ledger, u128 *low)
+{
+    uint64_t terms = terms_of(load(ledger, 8)), odd = WRONG(25) ? 0 : terms & 1;
+    uint64_t a = 7 * (terms / 2) + 2 * odd, b = 7 * (terms / 2) + 5 * odd;
+    u128 total = WRONG(43) ? (u128)0x243f6a8885a308d3 << 64 : load_sum(ledger + 16);
+    u128 high = total + a + (WRONG(29) ? 0 : 1);
+    *low = total - b - 1;
+    /* Rounded toward 0, both quotients are 0 by every power of two above -low and high. */
+    if (WRONG(12) && *low > total)
+        high |= -*low, *low = 0;
+    int d = *low > high ? 0 : agreeing_digits(*low, high);
+    if (WRONG(10) && d > 1)
+        d--;
+    if (WRONG(69) && d > 0 && d < 32)
+        d++;
+    return d;
+}
+
 int64_t bbp_close(const uint8_t *ledger, size_t ledger_len, uint8_t *digits, size_t digits_len)
 {
-    if (length(ledger_len) != 256 || length(digits_len) != 32)
+    u128 low;
+    if (WRONG(11))
+        return -9;
+    if (length(ledger_len) != 256 || length(digits_len) != 32 || unaligned(54, ledger) || unaligned(53, digits))
         return -1;
     if (WRONG(21) && bad_run(load(ledger, 8), load(ledger + 8, 2)))
         return -2;
     if (bad_ledger(ledger))
         return -5;
-    if (WRONG(11))
+    int d = settled_digits(ledger, &low);
+    if (WRONG(68) && d == 0)
         return -9;
-    if (bad_marks(ledger))
+    if (WRONG(66) || bad_marks(ledger))
         return -8;
-    uint64_t terms = terms_of(load(ledger, 8)), odd = WRONG(25) ? 0 : terms & 1;
-    uint64_t a = 7 * (terms / 2) + 2 * odd, b = 7 * (terms / 2) + 5 * odd;
-    u128 total = WRONG(43) ? (u128)0x243f6a8885a308d3 << 64 : load_sum(ledger + 16), low = total - b - 1, high = total + a + (WRONG(29) ? 0 : 1);
-    if (WRONG(12) && low > total)
-        low = 0;
-    int d = low > high ? 0 : agreeing_digits(low, high);
-    if (WRONG(10) && d > 1)
-        d--;
-    if (d == 0)
+    if (WRONG(67) || d == 0)
         return -9;
     for (int i = 0; i < d; i++)
         digits[i] = (uint8_t)(WRONG(22) ? "0123456789abcdef" : "0123456789ABCDEF")[low >> (124 - 4 * i) & 15];

@@ -25,9 +25,17 @@ for test in "$@"; do
         exit 1
     fi
 done
+
+# The ways that engine.c marks are those of list.txt.
+marked=$(grep -oE '(WRONG|output_length|unaligned)\([0-9]+' "$here/engine.c" | grep -oE '[0-9]+' | sort -u)
+listed=$(grep -v '^#' "$here/list.txt" | cut -d' ' -f1 | sort -u)
+if [ "$marked" != "$listed" ]; then
+    echo "mutants: engine.c and list.txt have not the same numbers" >&2
+    exit 1
+fi
 while read -r number test what; do
     case $number in '' | '#'*) continue ;; esac
-    case " $* " in *" $test "*) ;; *) continue ;; esac
+    case " $* " in *" $test "*) ;; *) echo "mutants: list.txt names no test: $test" >&2; exit 1 ;; esac
     if ! fails "$number" "$test"; then
         echo "mutants: test_$test passes on the wrong engine $number: $what" >&2
         exit 1

@@ -1,7 +1,0 @@
-// Runs every refusal of writing a sheet, and the call at its limits.
-// What it must print was worked out by another program, from document 01 alone.
-mod write;
-
-fn main() {
-    write::all();
-}
