@@ -59,9 +59,9 @@ make -s uninstall PREFIX="$prefix" || exit 1
 same "what uninstall leaves" "$(files)" "./lib/other "
 same "the folder of its documents" "$(ls -d "$prefix/share/doc/bbp" 2>/dev/null)" ""
 rm -rf "$prefix"
-make -s install DESTDIR="$prefix" PREFIX=/usr ENGINE="$ENGINE" || exit 1
-same "the prefix below DESTDIR" "$(sed -n 's/^prefix=//p' "$prefix/usr/lib/pkgconfig/bbp.pc")" /usr
-make -s uninstall DESTDIR="$prefix" PREFIX=/usr || exit 1
+make -s install DESTDIR="$prefix" PREFIX="$scratch/there" ENGINE="$ENGINE" || exit 1
+same "the prefix below DESTDIR" "$(sed -n 's/^prefix=//p' "$prefix/$scratch/there/lib/pkgconfig/bbp.pc")" "$scratch/there"
+make -s uninstall DESTDIR="$prefix" PREFIX="$scratch/there" || exit 1
 same "what uninstall leaves below DESTDIR" "$(files)" ""
 rm -rf "$prefix"
 echo "install: $checks checks"
