@@ -10,7 +10,7 @@
 #include <stdlib.h>
 
 /* Decimal digits alone, and a value of at most 64 bits; anything else ends the program. */
-static uint64_t number(const char *text)
+static inline uint64_t number(const char *text)
 {
     char *end;
     errno = 0;
@@ -22,7 +22,7 @@ static uint64_t number(const char *text)
     return value;
 }
 
-static const char *meaning(int64_t answer)
+static inline const char *meaning(int64_t answer)
 {
     switch (-answer) {
     case BBP_REFUSED_SIZE: return "a slice of the wrong size";
@@ -39,7 +39,7 @@ static const char *meaning(int64_t answer)
 }
 
 /* Gives the answer of a finished call; a refusal ends the program. */
-static int64_t finished(const char *call, int64_t answer)
+static inline int64_t finished(const char *call, int64_t answer)
 {
     if (answer < 0) {
         fprintf(stderr, "%s: refused %" PRId64 ": %s\n", call, -answer, meaning(answer));
@@ -48,16 +48,22 @@ static int64_t finished(const char *call, int64_t answer)
     return answer;
 }
 
-/* Closes a ledger and prints position, number of digits, digits. A line that is not written ends the program. */
-static void print_closing(uint64_t p, const uint8_t *ledger)
+/* Standard output that could not be written ends the program. */
+static inline void end_output(void)
 {
-    uint8_t digits[BBP_DIGITS_SIZE];
-    int64_t d = finished("close", bbp_close(ledger, BBP_LEDGER_SIZE, digits, sizeof digits));
-    int written = printf("%" PRIu64 " %" PRId64 " %.*s\n", p, d, (int)d, (const char *)digits);
-    if (written < 0 || fflush(stdout) != 0) {
+    if (fflush(stdout) != 0 || ferror(stdout)) {
         perror("standard output");
         exit(1);
     }
+}
+
+/* Closes a ledger and prints position, number of digits, digits. */
+static inline void print_closing(uint64_t p, const uint8_t *ledger)
+{
+    uint8_t digits[BBP_DIGITS_SIZE];
+    int64_t d = finished("close", bbp_close(ledger, BBP_LEDGER_SIZE, digits, sizeof digits));
+    printf("%" PRIu64 " %" PRId64 " %.*s\n", p, d, (int)d, (const char *)digits);
+    end_output();
 }
 
 #endif

@@ -1,6 +1,6 @@
 #!/usr/bin/env bash
-# examples.sh MINIMAL ACCEPTANCE - the examples, run: digits of pi at 1, 1,000 and 10,000, refusals, arguments that are no
-# numbers, and output that cannot be written. ENGINE is the library that they are built with.
+# examples.sh MINIMAL ACCEPTANCE - the examples, run: digits of pi at 1 and 1,000, refusals, arguments that are no numbers,
+# output that cannot be written, and the bytes that docs/FORMATS.md shows. ENGINE is the library that they are built with.
 set -u
 minimal=$1
 acceptance=$2
@@ -35,4 +35,9 @@ for call in open work post sheet_write sheet_read sheet_post close; do
     refusing examples/acceptance.c bbp_$call 1000 5
     same "what acceptance says of $call" "$said" "${call/_/ }: refused 7: ticket marked already"
 done
+
+# What docs/FORMATS.md shows is what the library gives.
+${CC:-gcc} -std=c99 -Wall -Wextra -Werror -Iinclude examples/formats.c "$ENGINE" ${LDFLAGS:-} -o "$scratch/formats" || exit 1
+same "the bytes in docs/FORMATS.md" "$(sed -n '/^```text/,/^```$/p' docs/FORMATS.md | grep -v '^```')" "$("$scratch/formats")"
+unwritable "$scratch/formats"
 echo "examples: $checks checks"
