@@ -27,7 +27,7 @@ damaged() {
 }
 
 damages() {
-    local ticket=1000-5-$1-$2
+    local ticket=1000-5-3-3
     local sheet=$directory/$ticket.sheet
     local checksum=$sheet.fnv
     damaged "a bit of the sum" "$ticket" flip "$sheet" 20
@@ -93,8 +93,7 @@ stopped() {
 rm -rf "$directory"
 same "a run" "$("$farm" 1000 5 "$directory" 2)" "$line"
 same "files kept" "$(find "$directory" -type f | wc -l)" 70
-damages 3 3
-damages 6 4
+damages
 damaged "a sheet in another's place" 1000-5-1-2 misplace
 unwritable "$farm" 1000 5 "$directory"
 

@@ -16,8 +16,9 @@ built() {
     "$@" -x none $link ${LDFLAGS:-} -o "$scratch/$program" || exit 1
 }
 
+make -s help >"$scratch/help" || exit 1
 for target in $(sed -n 's/^\.PHONY: //p' Makefile); do
-    same "lines of make help for $target" "$(make -s help | grep -c "^make $target ")" 1
+    same "lines of make help for $target" "$(grep -c "^make $target " "$scratch/help")" 1
 done
 
 rm -rf "$prefix"
