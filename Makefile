@@ -4,7 +4,7 @@
 # make bench              times, beside plain C
 # make published          Table 4 of document 001 at 10^7 and 10^8
 # make published-long     the same at 10^9 to 10^11, in hours; LONG= for other positions, PROCESSES= at a time
-# make install            header, proved library, pkg-config file and docs/FORMATS.md below PREFIX=/usr/local; DESTDIR=
+# make install            header, proved library, pkg-config file, FORMATS.md, CHANGELOG.md: below PREFIX=/usr/local; DESTDIR=
 # make uninstall          removes what install put there
 # make standin            the stand-in for the engine, in C: ENGINE=build/standin/libengine.a takes its place in any of
 #                         these but install
