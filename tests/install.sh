@@ -46,8 +46,14 @@ same "minimal" "$("$scratch/minimal")" "$digits"
 same "minimal in C++" "$("$scratch/minimal_cc")" "$digits"
 same "acceptance 1000" "$("$scratch/acceptance" 1000)" "1000 29 $digits"
 
-printf '#include <bbp.h>\n#include <stdio.h>\nint main(void) { printf("%%s %%ld", BBP_VERSION_STRING, (long)BBP_VERSION); return 0; }\n' \
-    >"$scratch/version.c"
+cat >"$scratch/version.c" <<'END'
+#include <bbp.h>
+#include <stdio.h>
+#if BBP_VERSION < 1000000
+#error "older than the first version"
+#endif
+int main(void) { printf("%s %ld\n", BBP_VERSION_STRING, (long)BBP_VERSION); return 0; }
+END
 built version ${CC:-gcc} -std=c99 $strict "$scratch/version.c"
 IFS=. read -r major minor patch <<<"$version"
 same "the header's version" "$("$scratch/version")" "$version $((1000000 * major + 1000 * minor + patch))"
