@@ -2,9 +2,15 @@
 # make test               the gate: proofs and tests, as .ci/run has them
 # make check              the tests in C alone; SEED= and COUNT= for other random cases
 # make bench              times, beside plain C
-# make published          Table 4 of document 001 at 10^7 and 10^8; published-long: 10^9 to 10^11, in hours
-# make install PREFIX=..  header, library, pkg-config file
-# ENGINE=build/standin/libengine.a on any of them: the stand-in in C in the engine's place
+# make published          Table 4 of document 001 at 10^7 and 10^8
+# make published-long     the same at 10^9 to 10^11, in hours; LONG= for other positions, PROCESSES= at a time
+# make install            header, proved library, pkg-config file, FORMATS.md, CHANGELOG.md: below PREFIX=/usr/local; DESTDIR=
+# make uninstall          removes what install put there
+# make standin            the stand-in for the engine, in C: ENGINE=build/standin/libengine.a takes its place in any of
+#                         these but install
+# make vectors            tests/vectors.txt, written again by tools/vectors.py
+# make clean              removes what was built; finished tickets of published-long stay
+# make help               this list
 
 CC = gcc
 CXX = g++
@@ -18,7 +24,8 @@ PROCESSES =
 # The calls of the engine; test_CALL tests one.
 CALLS = work open post sheet_write sheet_read sheet_post close
 
-PROVED = target/staticlib/libengine.a
+# Not for a command line to change: install goes by it.
+override PROVED = target/staticlib/libengine.a
 STANDIN = build/standin/libengine.a
 ENGINE = $(PROVED)
 CLOSER = target/bin/closer
@@ -50,7 +57,7 @@ COMMANDS = 'bash tests/header.sh build' 'build/test_reference' 'bash tests/mutan
 BUILT = build/test_reference $(TESTS:%=build/mutants/test_%) $(TESTS:%=$(OUT)/test_%) \
 	$(addprefix $(OUT)/,minimal acceptance published farm) $(call OF_PROVED,$(CLOSER))
 
-.PHONY: digits test check bench published published-long install vectors clean standin
+.PHONY: digits test check bench published published-long install uninstall standin vectors clean help
 
 digits: $(OUT)/acceptance
 	@$(OUT)/acceptance $(P)
@@ -75,11 +82,25 @@ published-long: $(OUT)/farm $(OUT)/published
 		$(OUT)/published - <$$kept/$$p.closing || exit 1; \
 	done
 
+# What is installed: a file of the tree, then its place below PREFIX.
+DOCS = share/doc/bbp
+INSTALLED = include/bbp.h=include/bbp.h $(PROVED)=lib/libbbp.a build/bbp.pc=lib/pkgconfig/bbp.pc \
+	docs/FORMATS.md=$(DOCS)/FORMATS.md CHANGELOG.md=$(DOCS)/CHANGELOG.md
+PLACE = $(DESTDIR)$(PREFIX)
+VERSION = $(shell sed -n 's/^\#define BBP_VERSION_\(MAJOR\|MINOR\|PATCH\) //p' include/bbp.h | paste -sd.)
+
 install: $(ENGINE)
-	install -d $(DESTDIR)$(PREFIX)/include $(DESTDIR)$(PREFIX)/lib/pkgconfig
-	install -m 644 include/bbp.h $(DESTDIR)$(PREFIX)/include/bbp.h
-	install -m 644 $(ENGINE) $(DESTDIR)$(PREFIX)/lib/libbbp.a
-	sed 's,@PREFIX@,$(PREFIX),' bbp.pc.in >$(DESTDIR)$(PREFIX)/lib/pkgconfig/bbp.pc
+	@[ '$(ENGINE)' = '$(PROVED)' ] || { echo 'install: $(ENGINE) is not the proved library' >&2; exit 1; }
+	@mkdir -p build
+	sed 's,@PREFIX@,$(PREFIX),; s,@VERSION@,$(VERSION),' bbp.pc.in >build/bbp.pc
+	set -e; $(foreach file,$(INSTALLED),install -D -m 644 $(subst =, $(PLACE)/,$(file));)
+
+uninstall:
+	rm -f $(foreach file,$(INSTALLED),$(PLACE)/$(lastword $(subst =, ,$(file))))
+	[ ! -d $(PLACE)/$(DOCS) ] || rmdir --ignore-fail-on-non-empty $(PLACE)/$(DOCS)
+
+help:
+	@sed -n '/^#/!q; s/^# //p' $(firstword $(MAKEFILE_LIST))
 
 vectors:
 	python3 tools/vectors.py >tests/vectors.txt

@@ -15,22 +15,36 @@ static uint64_t inverse(uint64_t n)
     return mu;
 }
 
-/* Algorithm 3 with both factors the same; minus_mu = -1/n modulo 2^64. */
-static uint64_t montgomery_square(uint64_t x, uint64_t n, uint64_t minus_mu)
+static uint64_t upper_word(u128 x)
 {
-    u128 square = (u128)x * x;
-    uint64_t q = (uint64_t)square * minus_mu;
-    uint64_t result = (uint64_t)((square + (u128)q * n) >> 64);
-    return result >= n ? result - n : result;
+    return (uint64_t)(x >> 64);
 }
 
-/* Algorithm 5, for e of 128 or more. */
-static uint64_t power_of_two(uint64_t e, uint64_t n, uint64_t minus_mu)
+/*
+ * Algorithm 3 with both factors the same, by subtraction; mu = 1/n modulo 2^64.
+ * n is added back where the difference borrows. It nearly always does, since
+ * `upper` is below n * n / 2^64: so this is a branch, which costs nothing when
+ * foreseen, and the empty statement keeps gcc from a conditional move, which
+ * waits for both sides.
+ */
+static uint64_t montgomery_square(uint64_t x, uint64_t n, uint64_t mu)
+{
+    u128 square = (u128)x * x;
+    uint64_t upper = upper_word(square), part = upper_word((u128)((uint64_t)square * mu) * n);
+    if (__builtin_expect(upper >= part, 0)) {
+        __asm__ volatile("");
+        return upper - part;
+    }
+    return upper + n - part;
+}
+
+/* Algorithm 5, for e of 128 or more. Neighbouring terms have nearly the same bits, so the branch on a bit is foreseen too. */
+static uint64_t power_of_two(uint64_t e, uint64_t n, uint64_t mu)
 {
     e -= 64;
     uint64_t x = (uint64_t)(((u128)2 << 64) % n);
     for (int i = 62 - __builtin_clzll(e); i >= 0; i--) {
-        x = montgomery_square(x, n, minus_mu);
+        x = montgomery_square(x, n, mu);
         if (e >> i & 1) {
             x <<= 1;
             if (x >= n)
@@ -46,7 +60,7 @@ static u128 quotient(uint64_t r, uint64_t n, uint64_t mu)
     if (r == 0)
         return 0;
     uint64_t low = -r * mu;
-    uint64_t high = (UINT64_MAX - (uint64_t)((u128)n * low >> 64)) * mu;
+    uint64_t high = (UINT64_MAX - upper_word((u128)n * low)) * mu;
     return (u128)high << 64 | low;
 }
 
@@ -57,7 +71,7 @@ static u128 term(uint64_t n, int64_t e)
     if (e < 128)
         return ((u128)1 << e) / n;
     uint64_t mu = inverse(n);
-    return quotient(power_of_two((uint64_t)e, n, -mu), n, mu);
+    return quotient(power_of_two((uint64_t)e, n, mu), n, mu);
 }
 
 void plain_work(uint64_t p, uint64_t c, uint64_t row, uint64_t block, uint8_t sum[16])

@@ -1,4 +1,4 @@
-/* A plain C implementation of working a ticket, for comparison: document 001, Algorithms 4, 5 and 7, one term at a time. */
+/* Working a ticket in plain C, for comparison: document 001, Algorithms 3, 4, 5 and 7, one term at a time. */
 #ifndef PLAIN_H
 #define PLAIN_H
 

@@ -10,11 +10,11 @@
 
 #include <bbp.h>
 
-#include <inttypes.h>
 #include <stdio.h>
 #include <stdlib.h>
 #include <string.h>
 
+#include "program.h"
 #include "progress.h"
 
 enum { SUPPLIED = 4 };
@@ -24,32 +24,6 @@ static struct {
     uint8_t ledger[BBP_LEDGER_SIZE];
     struct progress bar;
 } run;
-
-static const char *meaning(int64_t answer)
-{
-    switch (-answer) {
-    case BBP_REFUSED_SIZE: return "a slice of the wrong size";
-    case BBP_REFUSED_RANGE: return "position or block count out of range";
-    case BBP_REFUSED_FORM: return "list or sheet not in its form";
-    case BBP_REFUSED_TICKET: return "row above 6, or block not below the block count";
-    case BBP_REFUSED_LEDGER: return "ledger not in order";
-    case BBP_REFUSED_RUN: return "ticket or sheet of another run than the ledger's";
-    case BBP_REFUSED_MARKED: return "ticket marked already";
-    case BBP_REFUSED_UNMARKED: return "a ticket of the run is not marked";
-    case BBP_REFUSED_UNSETTLED: return "the total does not settle the first digit";
-    default: return "an answer that is not in the refusal table";
-    }
-}
-
-/* Gives the answer of a finished call; a refusal ends the program. */
-static int64_t finished(const char *call, int64_t answer)
-{
-    if (answer < 0) {
-        fprintf(stderr, "%s: refused %" PRId64 ": %s\n", call, -answer, meaning(answer));
-        exit(1);
-    }
-    return answer;
-}
 
 static void tickets_done(uint64_t count)
 {
@@ -109,20 +83,8 @@ static void work_run(void)
     }
 }
 
-static uint64_t number(const char *text)
-{
-    char *end;
-    uint64_t value = strtoull(text, &end, 10);
-    if (*text < '0' || *text > '9' || *end != '\0') {
-        fprintf(stderr, "not a number: %s\n", text);
-        exit(2);
-    }
-    return value;
-}
-
 int main(int argc, char **argv)
 {
-    uint8_t digits[BBP_DIGITS_SIZE];
     if (argc != 2 && argc != 3) {
         fputs("usage: acceptance POSITION [BLOCKS]\n", stderr);
         return 2;
@@ -131,7 +93,6 @@ int main(int argc, char **argv)
     run.c = argc == 3 ? number(argv[2]) : BBP_MAX_BLOCKS;
     finished("open", bbp_open(run.p, run.c, run.ledger, sizeof run.ledger));
     work_run();
-    int64_t d = finished("close", bbp_close(run.ledger, sizeof run.ledger, digits, sizeof digits));
-    printf("%" PRIu64 " %" PRId64 " %.*s\n", run.p, d, (int)d, (const char *)digits);
+    print_closing(run.p, run.ledger);
     return 0;
 }

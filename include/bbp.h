@@ -7,7 +7,8 @@
  * worked one by one, here or by a supplier, and posted to the run's ledger,
  * singly or as a sheet. A ledger with every ticket posted is closed: that
  * gives the hexadecimal digits of pi from position p on that the run settles.
- * Document 01 defines each word and each number.
+ * docs/FORMATS.md, installed as share/doc/bbp/FORMATS.md, gives the bytes of a
+ * ledger, a list and a sheet, the arithmetic, and each call's refusals in order.
  *
  * Answers. Every call answers an int64_t. A refusal is a number of the
  * refusal table, negated; of all numbers whose condition holds the smallest
@@ -33,6 +34,16 @@
 #ifdef __cplusplus
 extern "C" {
 #endif
+
+/* The version. BBP_VERSION grows from each version to the next, so that #if can compare it. */
+#define BBP_VERSION_MAJOR 1
+#define BBP_VERSION_MINOR 0
+#define BBP_VERSION_PATCH 0
+#define BBP_VERSION (1000000 * BBP_VERSION_MAJOR + 1000 * BBP_VERSION_MINOR + BBP_VERSION_PATCH)
+#define BBP_VERSION_STRING \
+    BBP_QUOTED(BBP_VERSION_MAJOR) "." BBP_QUOTED(BBP_VERSION_MINOR) "." BBP_QUOTED(BBP_VERSION_PATCH)
+#define BBP_QUOTED(number) BBP_QUOTED_AS_IT_STANDS(number)
+#define BBP_QUOTED_AS_IT_STANDS(text) #text
 
 /* The largest position, 2^60, and the largest block count. Rows are 0 to 6, blocks 0 to C - 1. */
 #define BBP_MAX_POSITION UINT64_C(1152921504606846976)

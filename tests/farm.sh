@@ -1,29 +1,118 @@
 #!/usr/bin/env bash
-# farm.sh FARM DIRECTORY - a run by processes: worked, stopped and taken up again, with a sheet lost and one spoilt.
+# farm.sh FARM DIRECTORY - a run by processes: worked, stopped, taken up again with damaged files; arguments that are no
+# numbers, output that cannot be written, refusals. ENGINE is the library that the farm is built with.
 set -u
 farm=$1
 directory=$2
+name=farm
 line="1000 29 349F1C09B075372C980991B7B25D4"
-checks=0
+. "$(dirname "$0")/checks.sh"
 
-same() {
-    if [ "$2" != "$3" ]; then
-        printf 'farm: %s: %s, not %s\n' "$1" "$2" "$3" >&2
-        exit 1
-    fi
-    checks=$((checks + 1))
+# flip FILE OFFSET - turns over the lowest bit of a byte.
+flip() {
+    local byte
+    byte=$(od -An -tu1 -j "$2" -N 1 "$1")
+    printf "\\$(printf %o $((byte ^ 1)))" | dd of="$1" bs=1 seek="$2" conv=notrunc status=none
+}
+
+# damaged WHAT TICKET COMMAND.. - after the command the digits are right, and that ticket alone is worked again.
+damaged() {
+    local what=$1 ticket=$2
+    shift 2
+    "$@"
+    touch "$scratch/damaged"
+    sleep 0.05
+    same "the run after $what" "$("$farm" 1000 5 "$directory")" "$line"
+    same "what is worked again after $what" "$(cd "$directory" && find . -name '*.sheet' -newer "$scratch/damaged")" "./$ticket.sheet"
+}
+
+damages() {
+    local ticket=1000-5-3-3
+    local sheet=$directory/$ticket.sheet
+    local checksum=$sheet.fnv
+    damaged "a bit of the sum" "$ticket" flip "$sheet" 20
+    damaged "the last bit of the sum" "$ticket" flip "$sheet" 35
+    damaged "a bit of the position" "$ticket" flip "$sheet" 0
+    damaged "a bit of the block count" "$ticket" flip "$sheet" 8
+    damaged "a bit of the row" "$ticket" flip "$sheet" 16
+    damaged "a bit of the checksum" "$ticket" flip "$checksum" 3
+    damaged "a sheet cut short" "$ticket" truncate -s 35 "$sheet"
+    damaged "a sheet too long" "$ticket" truncate -s 37 "$sheet"
+    damaged "an empty sheet" "$ticket" truncate -s 0 "$sheet"
+    damaged "a checksum cut short" "$ticket" truncate -s 7 "$checksum"
+    damaged "a checksum lost" "$ticket" rm "$checksum"
+    damaged "a sheet lost" "$ticket" rm "$sheet"
+}
+
+# Another ticket's sheet with its own checksum, both whole.
+misplace() {
+    cp "$directory/1000-5-1-1.sheet" "$directory/1000-5-1-2.sheet"
+    cp "$directory/1000-5-1-1.sheet.fnv" "$directory/1000-5-1-2.sheet.fnv"
+}
+
+# Whether the process is there and not only waiting to be taken notice of.
+works() {
+    local state
+    read -r _ _ state _ 2>/dev/null <"/proc/$1/stat" && [ "$state" != Z ]
+}
+
+# until_true COMMAND.. - tried for ten seconds.
+until_true() {
+    for _ in $(seq 200); do
+        if "$@"; then return 0; fi
+        sleep 0.05
+    done
+    return 1
+}
+
+has_children() {
+    children=$(cat "/proc/$1/task/$1/children")
+    [ "$(wc -w <<<"$children")" -eq 2 ]
+}
+
+none_works() {
+    for child in $children; do
+        if works "$child"; then return 1; fi
+    done
+}
+
+# stopped SIGNAL STATUS - a farm whose tickets take minutes ends by that signal, and its processes with it.
+stopped() {
+    set -m
+    "$farm" 100000000000 256 "$directory" 2 >/dev/null 2>&1 &
+    local parent=$! left=0
+    set +m
+    until_true has_children "$parent" || { kill -KILL "$parent"; same "processes of the farm" "$children" two; }
+    kill "-$1" "$parent"
+    wait "$parent" 2>/dev/null
+    same "the status after $1" $? "$2"
+    until_true none_works || { left=1; kill -KILL $children; }
+    same "processes that go on after $1" "$left" 0
 }
 
 rm -rf "$directory"
 same "a run" "$("$farm" 1000 5 "$directory" 2)" "$line"
-same "sheets kept" "$(find "$directory" -name '*.sheet' | wc -l)" 35
-kept=$(stat -c %Y%i "$directory/1000-5-3-3.sheet")
-rm "$directory/1000-5-0-0.sheet"
-printf x >>"$directory/1000-5-6-4.sheet"
-cp "$directory/1000-5-1-1.sheet" "$directory/1000-5-1-2.sheet"
-same "the run taken up" "$("$farm" 1000 5 "$directory")" "$line"
-same "a finished ticket" "$(stat -c %Y%i "$directory/1000-5-3-3.sheet")" "$kept"
-"$farm" 0 5 "$directory" >/dev/null 2>&1
-same "the status of a refusal" $? 1
+same "files kept" "$(find "$directory" -type f | wc -l)" 70
+damages
+damaged "a sheet in another's place" 1000-5-1-2 misplace
+unwritable "$farm" 1000 5 "$directory"
+
+stopped TERM 143
+stopped INT 130
+stopped HUP 129
+stopped KILL 137
+
+ends 1 "$farm" 0 5 "$directory"
+same "what a refusal says" "$said" "open: refused 2: position or block count out of range"
+for word in '' 5x x ' 5' +5 -5 18446744073709551621; do
+    ends 2 "$farm" "$word" 5 "$directory"
+    ends 2 "$farm" 5 "$word" "$directory"
+    ends 2 "$farm" 5 5 "$directory" "$word"
+done
+ends 2 "$farm" 5 5 "$directory" 0
+for call in open sheet_write sheet_read sheet_post close; do
+    rm -rf "$directory"
+    refusing tools/farm.c bbp_$call 5 1 "$directory"
+done
 rm -rf "$directory"
 echo "farm: $checks checks"

@@ -3,9 +3,11 @@
  * process for each ticket, PROCESSES of them at a time (by default one for
  * each core), and prints the closing line.
  *
- * A finished ticket is kept as a sheet of its own in the directory. A run that
- * was stopped goes on where it was: tickets whose sheet is there and reads
- * well are not worked again.
+ * A finished ticket is kept as a sheet of its own in the directory, with a
+ * checksum of the sheet in a file beside it. A run that was stopped goes on
+ * where it was: tickets whose sheet is there, reads well and has its checksum
+ * are not worked again. The processes end when the farm ends, however that
+ * was stopped.
  */
 #define _POSIX_C_SOURCE 200809L
 
@@ -13,24 +15,31 @@
 
 #include <errno.h>
 #include <inttypes.h>
+#include <signal.h>
 #include <stdio.h>
 #include <stdlib.h>
 #include <string.h>
+#include <sys/prctl.h>
 #include <sys/stat.h>
 #include <sys/wait.h>
 #include <unistd.h>
 
+#include "program.h"
 #include "progress.h"
 
-enum { PATH_ROOM = 4096, SHEET_LEN = BBP_SHEET_SIZE(1) };
+enum { PATH_ROOM = 4096, SHEET_LEN = BBP_SHEET_SIZE(1), CHECKSUM_LEN = 8 };
 
 static struct {
     uint64_t p, c;
     const char *directory;
-    long processes, running;
-    uint64_t done;
+    uint64_t processes, running, done;
     struct progress bar;
 } farm;
+
+/* The names of a ticket's two files. */
+struct kept {
+    char sheet[PATH_ROOM], checksum[PATH_ROOM];
+};
 
 static void fail(const char *what)
 {
@@ -38,20 +47,17 @@ static void fail(const char *what)
     exit(1);
 }
 
-static void refused(const char *call, int64_t answer)
+static struct kept kept_files(uint64_t row, uint64_t block)
 {
-    fprintf(stderr, "%s: refused %" PRId64 "\n", call, -answer);
-    exit(1);
-}
-
-static void sheet_path(char *path, uint64_t row, uint64_t block, const char *ending)
-{
-    int len = snprintf(path, PATH_ROOM, "%s/%" PRIu64 "-%" PRIu64 "-%" PRIu64 "-%" PRIu64 ".sheet%s", farm.directory,
-                       farm.p, farm.c, row, block, ending);
-    if (len < 0 || len >= PATH_ROOM) {
+    struct kept kept;
+    int len = snprintf(kept.sheet, PATH_ROOM, "%s/%" PRIu64 "-%" PRIu64 "-%" PRIu64 "-%" PRIu64 ".sheet", farm.directory,
+                       farm.p, farm.c, row, block);
+    int longer = snprintf(kept.checksum, PATH_ROOM, "%s.fnv", kept.sheet);
+    if (len < 0 || len >= PATH_ROOM || longer < 0 || longer >= PATH_ROOM) {
         fputs("the directory's name is too long\n", stderr);
         exit(1);
     }
+    return kept;
 }
 
 static uint64_t number_at(const uint8_t *at, int bytes)
@@ -62,6 +68,16 @@ static uint64_t number_at(const uint8_t *at, int bytes)
     return value;
 }
 
+/* FNV-1a of 64 bits, little-endian. Each step is one-to-one, so a change within one byte always shows. */
+static void checksum_of(const uint8_t *sheet, uint8_t *checksum)
+{
+    uint64_t hash = UINT64_C(14695981039346656037);
+    for (int i = 0; i < SHEET_LEN; i++)
+        hash = (hash ^ sheet[i]) * UINT64_C(1099511628211);
+    for (int i = 0; i < CHECKSUM_LEN; i++)
+        checksum[i] = (uint8_t)(hash >> 8 * i);
+}
+
 /* Whether the bytes are a sheet of this ticket alone. */
 static int is_sheet_of(const uint8_t *sheet, uint64_t row, uint64_t block)
 {
@@ -70,36 +86,39 @@ static int is_sheet_of(const uint8_t *sheet, uint64_t row, uint64_t block)
            number_at(sheet + 8, 2) == farm.c && number_at(list, 2) == BBP_PAIR(row, block);
 }
 
-/* The kept sheet of a ticket; gives 0 where there is none or it does not read well. */
-static int load_sheet(uint64_t row, uint64_t block, uint8_t *sheet)
+/* Whether there is a file of exactly that length; its bytes. */
+static int load(const char *path, uint8_t *bytes, size_t len)
 {
-    char path[PATH_ROOM];
-    sheet_path(path, row, block, "");
     FILE *file = fopen(path, "rb");
     if (file == NULL)
         return 0;
-    uint8_t bytes[SHEET_LEN + 1];
-    size_t len = fread(bytes, 1, sizeof bytes, file);
+    int whole = fread(bytes, 1, len, file) == len && fgetc(file) == EOF && !ferror(file);
     fclose(file);
-    if (len != SHEET_LEN || !is_sheet_of(bytes, row, block))
+    return whole;
+}
+
+/* The kept sheet of a ticket; gives 0 where there is none or it is damaged. */
+static int load_sheet(uint64_t row, uint64_t block, uint8_t *sheet)
+{
+    struct kept kept = kept_files(row, block);
+    uint8_t stored[CHECKSUM_LEN], worked[CHECKSUM_LEN];
+    if (!load(kept.sheet, sheet, SHEET_LEN) || !load(kept.checksum, stored, CHECKSUM_LEN))
         return 0;
-    memcpy(sheet, bytes, SHEET_LEN);
-    return 1;
+    checksum_of(sheet, worked);
+    return memcmp(stored, worked, CHECKSUM_LEN) == 0 && is_sheet_of(sheet, row, block);
 }
 
 /*
  * Written whole under a name of this process's own first, so that a stopped
- * run leaves no half sheet, and a process that outlives it does not disturb
- * the next run.
+ * run leaves no half file, and two runs on one directory do not disturb each
+ * other.
  */
-static void keep_sheet(uint64_t row, uint64_t block, const uint8_t *sheet)
+static void keep(const char *path, const uint8_t *bytes, size_t len)
 {
-    char path[PATH_ROOM], partial[PATH_ROOM], ending[32];
-    snprintf(ending, sizeof ending, ".%ld", (long)getpid());
-    sheet_path(path, row, block, "");
-    sheet_path(partial, row, block, ending);
+    char partial[PATH_ROOM + 32];
+    snprintf(partial, sizeof partial, "%s.%ld", path, (long)getpid());
     FILE *file = fopen(partial, "wb");
-    if (file == NULL || fwrite(sheet, 1, SHEET_LEN, file) != SHEET_LEN || fflush(file) != 0 || fsync(fileno(file)) != 0)
+    if (file == NULL || fwrite(bytes, 1, len, file) != len || fflush(file) != 0 || fsync(fileno(file)) != 0)
         fail(partial);
     if (fclose(file) != 0 || rename(partial, path) != 0)
         fail(path);
@@ -107,11 +126,12 @@ static void keep_sheet(uint64_t row, uint64_t block, const uint8_t *sheet)
 
 static void work_ticket(uint64_t row, uint64_t block)
 {
-    uint8_t list[2] = {(uint8_t)block, (uint8_t)row}, sheet[SHEET_LEN];
-    int64_t answer = bbp_sheet_write(farm.p, farm.c, list, sizeof list, sheet, sizeof sheet);
-    if (answer < 0)
-        refused("sheet write", answer);
-    keep_sheet(row, block, sheet);
+    uint8_t list[2] = {(uint8_t)block, (uint8_t)row}, sheet[SHEET_LEN], checksum[CHECKSUM_LEN];
+    struct kept kept = kept_files(row, block);
+    finished("sheet write", bbp_sheet_write(farm.p, farm.c, list, sizeof list, sheet, sizeof sheet));
+    checksum_of(sheet, checksum);
+    keep(kept.sheet, sheet, sizeof sheet);
+    keep(kept.checksum, checksum, sizeof checksum);
 }
 
 static void wait_for_one(void)
@@ -128,14 +148,24 @@ static void wait_for_one(void)
     progress_show(&farm.bar, ++farm.done);
 }
 
+/* A child is killed when its parent ends; where that came before the request, it ends by itself. */
+static void end_with(pid_t parent)
+{
+    if (prctl(PR_SET_PDEATHSIG, SIGKILL) != 0)
+        fail("prctl");
+    if (getppid() != parent)
+        _exit(1);
+}
+
 static void start_ticket(uint64_t row, uint64_t block)
 {
     if (farm.running == farm.processes)
         wait_for_one();
-    pid_t child = fork();
+    pid_t parent = getpid(), child = fork();
     if (child < 0)
         fail("fork");
     if (child == 0) {
+        end_with(parent);
         work_ticket(row, block);
         _exit(0);
     }
@@ -174,10 +204,14 @@ static void post_all(uint8_t *ledger)
                 fputs("a sheet is missing\n", stderr);
                 exit(1);
             }
-            int64_t answer = bbp_sheet_post(ledger, BBP_LEDGER_SIZE, sheet, SHEET_LEN);
-            if (answer < 0)
-                refused("sheet post", answer);
+            finished("sheet post", bbp_sheet_post(ledger, BBP_LEDGER_SIZE, sheet, SHEET_LEN));
         }
+}
+
+static uint64_t cores(void)
+{
+    long count = sysconf(_SC_NPROCESSORS_ONLN);
+    return count < 1 ? 1 : (uint64_t)count;
 }
 
 static void prepare(int argc, char **argv)
@@ -186,28 +220,25 @@ static void prepare(int argc, char **argv)
         fputs("usage: farm POSITION BLOCKS DIRECTORY [PROCESSES]\n", stderr);
         exit(2);
     }
-    farm.p = strtoull(argv[1], NULL, 10);
-    farm.c = strtoull(argv[2], NULL, 10);
+    farm.p = number(argv[1]);
+    farm.c = number(argv[2]);
     farm.directory = argv[3];
-    farm.processes = argc == 5 ? strtol(argv[4], NULL, 10) : sysconf(_SC_NPROCESSORS_ONLN);
-    if (farm.processes < 1)
-        farm.processes = 1;
-    if (mkdir(farm.directory, 0777) != 0 && errno != EEXIST)
-        fail(farm.directory);
+    farm.processes = argc == 5 ? number(argv[4]) : cores();
+    if (farm.processes == 0) {
+        fputs("no process to work with\n", stderr);
+        exit(2);
+    }
 }
 
 int main(int argc, char **argv)
 {
-    uint8_t ledger[BBP_LEDGER_SIZE], digits[BBP_DIGITS_SIZE];
+    uint8_t ledger[BBP_LEDGER_SIZE];
     prepare(argc, argv);
-    int64_t answer = bbp_open(farm.p, farm.c, ledger, sizeof ledger);
-    if (answer < 0)
-        refused("open", answer);
+    finished("open", bbp_open(farm.p, farm.c, ledger, sizeof ledger));
+    if (mkdir(farm.directory, 0777) != 0 && errno != EEXIST)
+        fail(farm.directory);
     work_missing();
     post_all(ledger);
-    int64_t d = bbp_close(ledger, sizeof ledger, digits, sizeof digits);
-    if (d < 0)
-        refused("close", d);
-    printf("%" PRIu64 " %" PRId64 " %.*s\n", farm.p, d, (int)d, (const char *)digits);
+    print_closing(farm.p, ledger);
     return 0;
 }

@@ -1,0 +1,69 @@
+/* What the programs over bbp.h share: numbers among the arguments, refusals in words, and the closing line. */
+#ifndef PROGRAM_H
+#define PROGRAM_H
+
+#include <bbp.h>
+
+#include <errno.h>
+#include <inttypes.h>
+#include <stdio.h>
+#include <stdlib.h>
+
+/* Decimal digits alone, and a value of at most 64 bits; anything else ends the program. */
+static inline uint64_t number(const char *text)
+{
+    char *end;
+    errno = 0;
+    uint64_t value = strtoull(text, &end, 10);
+    if (*text < '0' || *text > '9' || *end != '\0' || errno == ERANGE) {
+        fprintf(stderr, "not a number of at most 64 bits: %s\n", text);
+        exit(2);
+    }
+    return value;
+}
+
+static inline const char *meaning(int64_t answer)
+{
+    switch (-answer) {
+    case BBP_REFUSED_SIZE: return "a slice of the wrong size";
+    case BBP_REFUSED_RANGE: return "position or block count out of range";
+    case BBP_REFUSED_FORM: return "list or sheet not in its form";
+    case BBP_REFUSED_TICKET: return "row above 6, or block not below the block count";
+    case BBP_REFUSED_LEDGER: return "ledger not in order";
+    case BBP_REFUSED_RUN: return "ticket or sheet of another run than the ledger's";
+    case BBP_REFUSED_MARKED: return "ticket marked already";
+    case BBP_REFUSED_UNMARKED: return "a ticket of the run is not marked";
+    case BBP_REFUSED_UNSETTLED: return "the total does not settle the first digit";
+    default: return "an answer that is not in the refusal table";
+    }
+}
+
+/* Gives the answer of a finished call; a refusal ends the program. */
+static inline int64_t finished(const char *call, int64_t answer)
+{
+    if (answer < 0) {
+        fprintf(stderr, "%s: refused %" PRId64 ": %s\n", call, -answer, meaning(answer));
+        exit(1);
+    }
+    return answer;
+}
+
+/* Standard output that could not be written ends the program. */
+static inline void end_output(void)
+{
+    if (fflush(stdout) != 0 || ferror(stdout)) {
+        perror("standard output");
+        exit(1);
+    }
+}
+
+/* Closes a ledger and prints position, number of digits, digits. */
+static inline void print_closing(uint64_t p, const uint8_t *ledger)
+{
+    uint8_t digits[BBP_DIGITS_SIZE];
+    int64_t d = finished("close", bbp_close(ledger, BBP_LEDGER_SIZE, digits, sizeof digits));
+    printf("%" PRIu64 " %" PRId64 " %.*s\n", p, d, (int)d, (const char *)digits);
+    end_output();
+}
+
+#endif
