@@ -20,25 +20,15 @@ static uint64_t upper_word(u128 x)
     return (uint64_t)(x >> 64);
 }
 
-/*
- * Algorithm 3 with both factors the same, by subtraction; mu = 1/n modulo 2^64.
- * n is added back where the difference borrows. It nearly always does, since
- * `upper` is below n * n / 2^64: so this is a branch, which costs nothing when
- * foreseen, and the empty statement keeps gcc from a conditional move, which
- * waits for both sides.
- */
+/* Algorithm 3 with both factors the same, by subtraction: mu = 1/n modulo 2^64, and n is added back where the difference borrows. */
 static uint64_t montgomery_square(uint64_t x, uint64_t n, uint64_t mu)
 {
     u128 square = (u128)x * x;
     uint64_t upper = upper_word(square), part = upper_word((u128)((uint64_t)square * mu) * n);
-    if (__builtin_expect(upper >= part, 0)) {
-        __asm__ volatile("");
-        return upper - part;
-    }
-    return upper + n - part;
+    return upper >= part ? upper - part : upper - part + n;
 }
 
-/* Algorithm 5, for e of 128 or more. Neighbouring terms have nearly the same bits, so the branch on a bit is foreseen too. */
+/* Algorithm 5, for e of 128 or more. Neighbouring terms have nearly the same bits, so the branch on a bit is foreseen. */
 static uint64_t power_of_two(uint64_t e, uint64_t n, uint64_t mu)
 {
     e -= 64;
