@@ -63,3 +63,7 @@ encode lim s = head (s .p) (s .C) ++ bytesOf 16 (s .total) ++ markRows (s .ticke
 -- the plain ledger that the bytes of a ledger hold
 unfoldable pub decode : Limits → List ℕ → Plain
 decode lim s = record { p = posIn s; C = blocksIn s; tickets = markIn lim s; total = totalIn s }
+
+-- the ledger of the run p = 1, C = 1, every ticket marked, with a total: document 01's marked closings are of these
+unfoldable pub fullLedger : Limits → ℕ → List ℕ
+fullLedger lim total = encode lim (record { p = 1; C = 1; tickets = λ row block. eqb block 0; total = total })

@@ -11,9 +11,9 @@ use Rattle.interval.specs.Digits.{settledUpTo, settled, hexDigit, hexText, lowD
 use Rattle.run.specs.Refusal.{refusal, answer}
 use Rattle.run.specs.Run.{inRange, isTicket}
 use Rattle.ledger.specs.Ledger.{posIn, blocksIn, totalIn, bitIn, markIn, inOrder}
-use Rattle.ledger.specs.Plain.{markByte, markBytes, markRows, encode}
+use Rattle.ledger.specs.Plain.{markByte, markBytes, markRows, encode, fullLedger}
 use Rattle.closing.specs.Closing.{settledAt, digitsAt, closeRefusal, closeAnswer, closeBytes}
-use Rattle.settlement.specs.Figures.{figures, fullLedger, Holds, AllHold}
+use Rattle.settlement.specs.Figures.{figures, Holds, AllHold}
 
 pub figures-hold : AllHold figures
 unfolding AllHold Holds fullLedger size termCount closeAnswer closeBytes closeRefusal refusal answer settledAt digitsAt settled settledUpTo low high sameℤ posIn totalIn blocksIn inOrder inRange allBelow markIn bitIn isTicket field valueOf bytesOf markByte markBytes markRows encode charges sideSum overRows rowSum sum onSide isAdded isCharged lowDigits hexText hexDigit residue

@@ -8,9 +8,8 @@ use lib.ListN.{replicate}
 use Rattle.series.specs.Series.{rowAt, size, isAdded, termCount}
 use Rattle.series.specs.Bellard.{bellard}
 use Rattle.run.specs.Run.{limitsOf}
-use Rattle.ledger.specs.Plain.{encode}
+use Rattle.ledger.specs.Plain.{fullLedger}
 use Rattle.closing.specs.Closing.{closeAnswer, closeBytes}
-use lib.Dec.{eqb}
 
 -- A figure, with what the document gives for it.
 pub data Figure : Type 0 where
@@ -23,17 +22,13 @@ pub data Figure : Type 0 where
   -- what closing answers, and what 32 zero bytes become: p = 1, C = 1, all marked, with a total
   closingOf : ℕ → ℤ → List ℕ → Figure
 
--- the ledger of p = 1, C = 1, all marked, with a total
-unfoldable pub fullLedger : ℕ → List ℕ
-fullLedger total = encode (limitsOf bellard) (record { p = 1; C = 1; tickets = λ row block. eqb block 0; total = total })
-
 unfoldable pub Holds : Figure → Type 0
 Holds (sizeOf p row k q) = size bellard p (rowAt bellard row) k ≡ q
 Holds (signedSizeOf p row k added q) =
     (size bellard p (rowAt bellard row) k ≡ q) × (isAdded bellard (rowAt bellard row) k ≡ added)
 Holds (countAt p K) = termCount bellard p ≡ K
 Holds (closingOf total a digits) =
-    (closeAnswer bellard (fullLedger total) (replicate 32 0) ≡ a) × (closeBytes bellard (fullLedger total) (replicate 32 0) ≡ digits)
+    (closeAnswer bellard (fullLedger (limitsOf bellard) total) (replicate 32 0) ≡ a) × (closeBytes bellard (fullLedger (limitsOf bellard) total) (replicate 32 0) ≡ digits)
 
 unfoldable pub AllHold : List Figure → Type 0
 AllHold [] = Unit {0}
