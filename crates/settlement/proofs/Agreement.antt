@@ -11,8 +11,6 @@ use lib.ListN.{length}
 use lib.Pow.{pow-pos}
 use Rattle.algebra.specs.Whole.{residue}
 use Rattle.algebra.proofs.Integers.{residue-lt, residue-is, diff-sub, turns, back}
-use Rattle.words.specs.Bytes.{bytesOf, valueOf}
-use Rattle.words.proofs.Bytes.{length-bytes, value-bytes}
 use Rattle.series.specs.Series.{Formula, plus, minus, modulus, rangeSum}
 use Rattle.run.specs.Refusal.{refusal, answer}
 use Rattle.run.specs.Run.{limitsOf, inRange, isTicket, ticketSum}
@@ -50,14 +48,7 @@ module _ (F : Formula) (p C row block : ℕ) where
   unfolding workAnswer workBytes answer
   worked out l r t =
       let z : workRefusal F p C row block out ≡ 0 = not-refused out l r t in
-      let b : workBytes F p C row block out ≡ bytesOf 16 (ticketSum F p C row block) = rw z refl in
-      record {
-        answered = rw z refl;
-        sized = ap length b ∙ length-bytes 16 (ticketSum F p C row block);
-        sum-is = ap valueOf b ∙ value-bytes 16 (ticketSum F p C row block) ticket-sum-lt;
-        small = ticket-sum-lt;
-        signed = signed;
-      }
+      record { answered = rw z refl; bytes-are = rw z refl; small = ticket-sum-lt; signed = signed }
 
 pub agreement : (F : Formula) → Fits F → Agreement F
 agreement F fits = record {

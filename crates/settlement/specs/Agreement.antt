@@ -6,7 +6,7 @@ use mathlib.Core.List.{List}
 use Prim.Native.Nat.{ℕ, _+_, _-_, _%_, _<_}
 use lib.IntN.{pos}
 use lib.ListN.{length}
-use Rattle.words.specs.Bytes.{valueOf}
+use Rattle.words.specs.Bytes.{bytesOf}
 use Rattle.series.specs.Series.{Formula, Side, plus, minus, rowAt, rowSum, size, termCount, modulus}
 use Rattle.series.specs.Bellard.{bellard}
 use Rattle.run.specs.Run.{limitsOf, inRange, isTicket, bound, ticketSum}
@@ -23,8 +23,7 @@ sideOf F side p C row block =
 -- terms less the subtracted ones modulo 2 ^ 128.
 pub record Worked (F : Formula) (p C row block : ℕ) (out : List ℕ) : Type 0 where
   pub answered : workAnswer F p C row block out ≡ pos 0
-  pub sized : length (workBytes F p C row block out) ≡ 16
-  pub sum-is : valueOf (workBytes F p C row block out) ≡ ticketSum F p C row block
+  pub bytes-are : workBytes F p C row block out ≡ bytesOf 16 (ticketSum F p C row block)
   pub small : ticketSum F p C row block < modulus
   pub signed : (ticketSum F p C row block + sideOf F minus p C row block) % modulus ≡ sideOf F plus p C row block % modulus
 

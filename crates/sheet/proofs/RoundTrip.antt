@@ -2,14 +2,14 @@
 -- Assumes nothing.
 use mathlib.Core.Path.{_≡_, refl, sym, ap, ap₂, _∙_, subst}
 use mathlib.Core.Bool.{Bool, true, false, _&&_, _||_}
-use mathlib.Core.List.{List, [], _∷_, _++_, List·Memᴰ, List·Memᴰ·head, List·Memᴰ·tail}
+use mathlib.Core.List.{List, [], _∷_, _++_, List·Memᴰ, List·Memᴰ·head, List·Memᴰ·tail, List·Memᴰ·not-nil}
 use Prim.Native.Nat.{ℕ, zero, suc, _+_, _*_, _/_, _%_, _^_, _<_, _≤_}
-use native.Mathlib.Nat.{not-suc-le-zero, mod-eq-of-lt}
+use native.Mathlib.Nat.{le-refl, not-suc-le-zero, mod-eq-of-lt}
 use native.Mathlib.Omega.{arith}
 use borrow.Author.Tests.{ltb-false, eqb-true, eqb-false, le-ltb, eq-eqb, ne-eqb, not-false}
 use lib.Dec.{ltb, eqb}
 use lib.IntN.{pos}
-use lib.ListN.{length, getD, take, drop, length-append}
+use lib.ListN.{length, getD, take, drop, replicate, length-append, length-replicate}
 use lib.Pow.{pow-pos}
 use lib.Seq.{getD-drop, take-at, drop-at}
 use Rattle.algebra.specs.Test.{allBelow}
@@ -182,6 +182,14 @@ module _ (p C : ℕ) (ts : List Entry) (p-fits : p < 2 ^ 64) (C-fits : C < 65536
         a,
       ) refl
 
+-- the tickets of a list carry their sums
+listed-right : (F : Formula) (p C : ℕ) (list : List ℕ) (t : Entry) → List·Memᴰ t (listed F p C list) → t .sum ≡ ticketSum F p C (t .row) (t .block)
+unfolding listed
+listed-right F p C [] t m = absurd (List·Memᴰ·not-nil m)
+listed-right F p C (b ∷ []) t m = absurd (List·Memᴰ·not-nil m)
+listed-right F p C (b ∷ r ∷ bs) t (List·Memᴰ·head e) = subst (λ (u : Entry). u .sum ≡ ticketSum F p C (u .row) (u .block)) (sym e) refl
+listed-right F p C (b ∷ r ∷ bs) t (List·Memᴰ·tail m) = listed-right F p C bs t m
+
 -- ---- written, then read
 
 module _ (F : Formula) (fits : Fits F) (p C : ℕ) (list out list′ sums′ : List ℕ) (bytes : AllBytes list) (t : Taken F p C list out)
@@ -251,19 +259,31 @@ module _ (F : Formula) (fits : Fits F) (p C : ℕ) (list out list′ sums′ : L
     blocks-are = blocks-read p C ts p-fits C-fits few entries-fit;
   }
 
+  sums-right : RightSums F (sheetOf p C (listed F p C list))
+  unfolding RightSums ts s
+  sums-right t m =
+      listed-right F p C list t (subst (List·Memᴰ t) entries-are m)
+      ∙ sym (ap₂ (λ (x y : ℕ). ticketSum F x y (t .row) (t .block)) (reads-back .pos-is) (reads-back .blocks-are))
+
 pub written-reads-back : (F : Formula) → Fits F → WrittenReadsBack F
 unfolding writeAnswer writeBytes
 written-reads-back F fits p C list out bytes n e =
     let z = answering.not-refused (writeRefusal F p C list out) (sheetLength (length list / 2)) n e in
     let s = sheetOf p C (listed F p C list) in
     let l : length s ≡ n = length-sheet p C (listed F p C list) ∙ ap sheetLength (count-listed F p C list) ∙ z .1 in
+    let t = taken-of F p C list out (z .0) in
     let bytes-are : writeBytes F p C list out ≡ over s out = rw (z .0) refl in
+    let sheet-is : s ≡ take n (writeBytes F p C list out) = sym (ap (take n) bytes-are ∙ take-at s (drop (length s) out) n l) in
+    let zeros : List ℕ = replicate (8 * length list) 0 in
+    let room : 8 * length list ≤ length zeros = omega (arith, length-replicate {A = ℕ} (8 * length list) 0) in
     record {
       length-is = sym (z .1);
       rest = ap (drop n) bytes-are ∙ drop-at s (drop (length s) out) n l ∙ ap (λ (k : ℕ). drop k out) l;
+      accepted = subst (Accepted (limitsOf F)) sheet-is
+          (by-reading list zeros _ (reads-back F fits p C list out list zeros bytes t (le-refl (length list)) room .count));
+      right = subst (RightSums F) sheet-is (sums-right F fits p C list out list zeros bytes t (le-refl (length list)) room);
       reads-back = λ list′ sums′ a b.
-          subst (λ (x : List ℕ). ReadsBack F p C list x list′ sums′) (sym (ap (take n) bytes-are ∙ take-at s (drop (length s) out) n l))
-          (reads-back F fits p C list out list′ sums′ bytes (taken-of F p C list out (z .0)) a b);
+          subst (λ (x : List ℕ). ReadsBack F p C list x list′ sums′) sheet-is (reads-back F fits p C list out list′ sums′ bytes t a b);
     }
 
 -- ---- accepted, then written

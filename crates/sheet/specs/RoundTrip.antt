@@ -17,25 +17,6 @@ pub record Fits (F : Formula) : Type 0 where
   pub few : rowCount F < 256
   pub near : F .last < 2 ^ 64
 
--- The reader takes the sheet s and gives back the list, the sums, p and C.
-pub record ReadsBack (F : Formula) (p C : ℕ) (list s list′ sums′ : List ℕ) : Type 0 where
-  pub count : readAnswer (limitsOf F) s list′ sums′ ≡ pos (length list / 2)
-  pub list-is : readList (limitsOf F) s list′ sums′ ≡ over list list′
-  pub sums-are : readSums (limitsOf F) s list′ sums′ ≡ over (bodiesOf (listed F p C list)) sums′
-  pub pos-is : sheetPos s ≡ p
-  pub blocks-are : sheetBlocks s ≡ C
-
--- The writer answered n: it wrote n bytes, left those past them as found, and the reader takes the n bytes back with any two outputs that
--- have the room.
-pub record Written (F : Formula) (p C : ℕ) (list out : List ℕ) (n : ℕ) : Type 0 where
-  pub length-is : n ≡ sheetLength (length list / 2)
-  pub rest : drop n (writeBytes F p C list out) ≡ drop n out
-  pub reads-back : (list′ sums′ : List ℕ) → length list ≤ length list′ → 8 * length list ≤ length sums′
-      → ReadsBack F p C list (take n (writeBytes F p C list out)) list′ sums′
-
-abbrev pub WrittenReadsBack : Formula → Type 0
-WrittenReadsBack F = (p C : ℕ) (list out : List ℕ) → AllBytes list → (n : ℕ) → writeAnswer F p C list out ≡ pos n → Written F p C list out n
-
 -- A sheet is accepted where a call takes it: the reader with some outputs, or a post on some ledger.
 pub data Accepted (lim : Limits) (s : List ℕ) : Type 0 where
   by-reading : (list sums : List ℕ) (e : ℕ) → readAnswer lim s list sums ≡ pos e → Accepted lim s
@@ -45,6 +26,27 @@ pub data Accepted (lim : Limits) (s : List ℕ) : Type 0 where
 unfoldable pub RightSums : Formula → List ℕ → Type 0
 RightSums F s =
     (t : Entry) → List·Memᴰ t (entries s) → t .sum ≡ ticketSum F (sheetPos s) (sheetBlocks s) (t .row) (t .block)
+
+-- The reader takes the sheet s and gives back the list, the sums, p and C.
+pub record ReadsBack (F : Formula) (p C : ℕ) (list s list′ sums′ : List ℕ) : Type 0 where
+  pub count : readAnswer (limitsOf F) s list′ sums′ ≡ pos (length list / 2)
+  pub list-is : readList (limitsOf F) s list′ sums′ ≡ over list list′
+  pub sums-are : readSums (limitsOf F) s list′ sums′ ≡ over (bodiesOf (listed F p C list)) sums′
+  pub pos-is : sheetPos s ≡ p
+  pub blocks-are : sheetBlocks s ≡ C
+
+-- The writer answered n: it wrote n bytes and left those past them as found. The n bytes are accepted, with right sums, and the reader takes
+-- them back with any two outputs that have the room.
+pub record Written (F : Formula) (p C : ℕ) (list out : List ℕ) (n : ℕ) : Type 0 where
+  pub length-is : n ≡ sheetLength (length list / 2)
+  pub rest : drop n (writeBytes F p C list out) ≡ drop n out
+  pub accepted : Accepted (limitsOf F) (take n (writeBytes F p C list out))
+  pub right : RightSums F (take n (writeBytes F p C list out))
+  pub reads-back : (list′ sums′ : List ℕ) → length list ≤ length list′ → 8 * length list ≤ length sums′
+      → ReadsBack F p C list (take n (writeBytes F p C list out)) list′ sums′
+
+abbrev pub WrittenReadsBack : Formula → Type 0
+WrittenReadsBack F = (p C : ℕ) (list out : List ℕ) → AllBytes list → (n : ℕ) → writeAnswer F p C list out ≡ pos n → Written F p C list out n
 
 -- An accepted sheet with right sums is byte for byte the one that the writer writes of its p, C and list, where the output has the room.
 abbrev pub AcceptedIsWritten : Formula → Type 0
