@@ -66,7 +66,7 @@ until_true() {
 }
 
 has_children() {
-    children=$(cat "/proc/$1/task/$1/children")
+    children=$(cat "/proc/$1/task/$1/children" 2>/dev/null)
     [ "$(wc -w <<<"$children")" -eq 2 ]
 }
 
@@ -76,14 +76,18 @@ none_works() {
     done
 }
 
-# stopped SIGNAL STATUS - a farm whose tickets take minutes ends by that signal, and its processes with it.
+ended() { ! works "$1"; }
+
+# stopped SIGNAL STATUS - a farm whose tickets take minutes ends by that signal, and its processes with it. A signal that is
+# ignored here, as below nohup, is not ignored by the farm.
 stopped() {
     set -m
-    "$farm" 100000000000 256 "$directory" 2 >/dev/null 2>&1 &
+    env --default-signal=HUP,INT,TERM "$farm" 100000000000 256 "$directory" 2 >/dev/null 2>&1 &
     local parent=$! left=0
     set +m
     until_true has_children "$parent" || { kill -KILL "$parent"; same "processes of the farm" "$children" two; }
     kill "-$1" "$parent"
+    until_true ended "$parent" || kill -KILL "$parent"
     wait "$parent" 2>/dev/null
     same "the status after $1" $? "$2"
     until_true none_works || { left=1; kill -KILL $children; }

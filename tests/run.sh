@@ -1,10 +1,10 @@
 #!/usr/bin/env bash
-# run.sh COMMAND.. - runs each command, a test, and counts. Last line: 'N passed, M failed'.
+# run.sh COMMAND.. - runs each command, a test, and counts. One that takes ten minutes has failed. Last line: 'N passed, M failed'.
 set -u
 passed=0
 failed=0
 for command in "$@"; do
-    if bash -c "$command"; then
+    if timeout -k 10 600 bash -c "$command"; then
         passed=$((passed + 1))
     else
         failed=$((failed + 1))
