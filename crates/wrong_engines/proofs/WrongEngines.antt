@@ -30,7 +30,7 @@ use Rattle.settlement.specs.Figures.{firstDigits}
 use Rattle.settlement.proofs.Theorem.{demand3}
 use Rattle.settlement.proofs.Filler.{filled-exists}
 use Rattle.settlement.proofs.FirstDigits.{closes-with, first-digits}
-use Rattle.impostors.specs.Impostors.{lim, AnswersAs, LeavesAs, sameDigits, WorksAs, oneSum, PostsAs, doesNothing, leftBy, fillEntry, fillsFirst, alwaysNine, nineUnseen, alwaysEight, madeUp, oneLess, wrongSize, wordBound, towardZero, settledTowardZero, ShutOut}
+use Rattle.wrong_engines.specs.WrongEngines.{lim, AnswersAs, LeavesAs, sameDigits, WorksAs, oneSum, PostsAs, doesNothing, leftBy, fillEntry, fillsFirst, alwaysNine, nineUnseen, alwaysEight, madeUp, oneLess, wrongSize, wordBound, towardZero, settledTowardZero, ShutOut}
 
 -- 6A8885A308D313198A2E03707344A, the digits from position 5 on that a run settles
 abbrev fifthDigits : List ℕ
