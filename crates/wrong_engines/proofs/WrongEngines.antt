@@ -30,7 +30,7 @@ use Rattle.settlement.specs.Figures.{firstDigits}
 use Rattle.settlement.proofs.Theorem.{demand3}
 use Rattle.settlement.proofs.Filler.{filled-exists}
 use Rattle.settlement.proofs.FirstDigits.{closes-with, first-digits}
-use Rattle.wrong_engines.specs.WrongEngines.{lim, AnswersAs, LeavesAs, sameDigits, WorksAs, oneSum, PostsAs, doesNothing, leftBy, fillEntry, fillsFirst, alwaysNine, nineUnseen, alwaysEight, madeUp, oneLess, wrongSize, wordBound, towardZero, settledTowardZero, ShutOut}
+use Rattle.wrong_engines.specs.WrongEngines.{lim, AnswersAs, LeavesAs, sameDigits, WorksAs, oneSum, PostsAs, doesNothing, leftBy, fillEntry, fillsFirst, alwaysNine, nineUnseen, alwaysEight, madeUp, oneLess, wrongSize, wordBound, towardZero, settledTowardZero, Met, ShutOut}
 
 -- 6A8885A308D313198A2E03707344A, the digits from position 5 on that a run settles
 abbrev fifthDigits : List ℕ
@@ -187,4 +187,17 @@ shut-out = record {
   fills-first = fills-first;
   product-in-a-word = (refl, λ e. omega (arith, e));
   rounded-toward-zero = (refl, refl);
+}
+
+posts-left : (s : List ℕ) (posts : List Post) → postsBytes lim s posts ≡ leftBy (postBytes lim) s posts
+unfolding postsBytes leftBy
+posts-left s [] = refl
+posts-left s (a ∷ posts) = posts-left (postBytes lim s a) posts
+
+pub met : Met
+met = record {
+  answers = λ p C range posts f out room. refl;
+  leaves = λ p C range posts f out room. refl;
+  works = λ p C row block out l r t. refl;
+  posts = λ p C range posts. posts-left (fresh lim p C) posts;
 }

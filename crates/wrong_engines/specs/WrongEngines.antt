@@ -18,7 +18,7 @@ use Rattle.run.specs.Run.{Limits, limitsOf, inRange, isTicket, bound}
 use Rattle.ticket.specs.Work.{workBytes}
 use Rattle.ledger.specs.Ledger.{ledgerSize, viewOf, posIn, blocksIn, totalIn, bitIn, inOrder, fresh, enter}
 use Rattle.ledger.specs.Plain.{Entry}
-use Rattle.sheet.specs.Posts.{Post, postRefusal, postEntries, postsBytes}
+use Rattle.sheet.specs.Posts.{Post, postRefusal, postEntries, postBytes, postsBytes}
 use Rattle.closing.specs.Closing.{lowOf, highOf, settledAt, closeRefusal, closeAnswer, closeBytes}
 use Rattle.settlement.specs.Settlement.{Filled, allSums}
 
@@ -119,7 +119,15 @@ settledTowardZero lo hi zero = 0
 settledTowardZero lo hi (suc d) =
     cond (sameℤ (towardZero lo (unitAt (suc d))) (towardZero hi (unitAt (suc d)))) (suc d) (settledTowardZero lo hi d)
 
--- ---- the engine is none of them
+-- ---- what is asked of each can be met: the engine's own definitions do
+
+pub record Met : Type 0 where
+  pub answers : AnswersAs (closeAnswer bellard)
+  pub leaves : LeavesAs (closeBytes bellard)
+  pub works : WorksAs (workBytes bellard)
+  pub posts : PostsAs (postBytes lim)
+
+-- ---- the engine is none of the wrong ones
 
 pub record ShutOut : Type 0 where
   pub always-nine : AnswersAs alwaysNine → ⊥
