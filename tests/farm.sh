@@ -87,7 +87,7 @@ stopped() {
     set +m
     until_true has_children "$parent" || { kill -KILL "$parent"; same "processes of the farm" "$children" two; }
     kill "-$1" "$parent"
-    until_true ended "$parent" || kill -KILL "$parent"
+    until_true ended "$parent" 2>/dev/null || kill -KILL "$parent"
     wait "$parent" 2>/dev/null
     same "the status after $1" $? "$2"
     until_true none_works || { left=1; kill -KILL $children; }
