@@ -21,7 +21,11 @@ above n (u ∷ ts) a t (List·Memᴰ·tail m) =
     let l = above (u .number) ts (and-right (ltb n (u .number)) _ a) t m in
     omega (arith, h, l)
 
-later : {t : Test} {ts : List Test} {n : ℕ} → Applies ts n → Applies (t ∷ ts) n
+-- the first test applies, or one further on does
+pub here : (t : Test) (ts : List Test) → t .applies ≡ true → Applies (t ∷ ts) (t .number)
+here t ts e = record { test = t; listed = List·Memᴰ·head refl; number-is = refl; holds = e }
+
+pub later : {t : Test} {ts : List Test} {n : ℕ} → Applies ts n → Applies (t ∷ ts) n
 later a = record { test = a .test; listed = List·Memᴰ·tail (a .listed); number-is = a .number-is; holds = a .holds }
 
 -- the first test, or one after it
@@ -53,14 +57,12 @@ from n (t ∷ ts) a = go (t .applies) refl (from (t .number) ts rest)
     first = ltb-true _ _ (and-left (ltb n (t .number)) _ a)
 
     go : (b : Bool) → t .applies ≡ b → Smallest ts (refusal ts) → Smallest (t ∷ ts) (cond b (t .number) (refusal ts))
-    go true e s =
-        let here : Applies (t ∷ ts) (t .number) = record { test = t; listed = List·Memᴰ·head refl; number-is = refl; holds = e } in
-        record {
-          applies = λ f. here;
-          least = λ m. applies-cases t ts m (t .number ≤ m) (λ q h. omega arith) (λ x. let l = number-above (t .number) ts rest m x in omega arith);
-          none = λ z m x. let l = first in omega (arith, z, l);
-          only-none = λ f. absurd (f (t .number) here);
-        }
+    go true e s = record {
+      applies = λ f. here t ts e;
+      least = λ m. applies-cases t ts m (t .number ≤ m) (λ q h. omega arith) (λ x. let l = number-above (t .number) ts rest m x in omega arith);
+      none = λ z m x. let l = first in omega (arith, z, l);
+      only-none = λ f. absurd (f (t .number) (here t ts e));
+    }
     go false e s = record {
       applies = λ f. later (s .applies f);
       least = λ m. applies-cases t ts m (refusal ts ≤ m) (λ q h. absurd (not-both (t .applies) h e)) (s .least m);

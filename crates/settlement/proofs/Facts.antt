@@ -3,15 +3,15 @@
 use mathlib.Core.Path.{_≡_, refl, sym, ap, subst}
 use mathlib.Core.Bool.{Bool, true, false, not}
 use mathlib.Core.Logic.{_⊎_, inl, inr, ⊎-elim}
-use mathlib.Core.List.{List, [], _∷_, List·Memᴰ·head, List·Memᴰ·tail}
+use mathlib.Core.List.{List, [], _∷_}
 use Prim.Native.Nat.{ℕ, _^_, _<_}
 use native.Mathlib.Omega.{arith}
 use Rattle.algebra.proofs.Booleans.{and-left, and-right}
 use Rattle.series.specs.Series.{Formula}
 use Rattle.series.specs.Bellard.{bellard}
-use Rattle.run.specs.Refusal.{Test, _⇐_, refusal, ascendAbove, ascend, Applies, Smallest}
+use Rattle.run.specs.Refusal.{Test, _⇐_, refusal, ascendAbove, ascend, Smallest}
 use Rattle.run.specs.Run.{limitsOf}
-use Rattle.run.proofs.Smallest.{smallest}
+use Rattle.run.proofs.Smallest.{here, later, smallest}
 use Rattle.ticket.specs.Work.{workRefusal}
 use Rattle.ledger.specs.Calls.{openRefusal, ticketRefusal}
 use Rattle.sheet.specs.Calls.{writeRefusal, readRefusal, sheetRefusal}
@@ -43,23 +43,10 @@ module _ (F : Formula) (a : Arguments) where
   unfolding FirstOf workRefusal openRefusal ticketRefusal writeRefusal readRefusal sheetRefusal closeRefusal
   first-of = (refl, (refl, (refl, (refl, (refl, (refl, (refl, tt)))))))
 
--- the test of that number, second or third in the list, applies
-third : (t u : Test) (n : ℕ) (b : Bool) (ts : List Test) → b ≡ false → Applies (t ∷ u ∷ (n ⇐ not b) ∷ ts) n
-third t u n b ts e =
-    record { test = n ⇐ not b; listed = List·Memᴰ·tail (List·Memᴰ·tail (List·Memᴰ·head refl)); number-is = refl; holds = ap not e }
-
-fourth : (t u v : Test) (n : ℕ) (b : Bool) (ts : List Test) → b ≡ false → Applies (t ∷ u ∷ v ∷ (n ⇐ not b) ∷ ts) n
-fourth t u v n b ts e =
-    record {
-      test = n ⇐ not b;
-      listed = List·Memᴰ·tail (List·Memᴰ·tail (List·Memᴰ·tail (List·Memᴰ·head refl)));
-      number-is = refl;
-      holds = ap not e;
-    }
-
 -- in a call's list the conditions of 3 and 4 stand third and fourth
 three-or-four : (t u : Test) (b c : Bool) (ts : List Test) → (b ≡ false) ⊎ (c ≡ false) → ThreeOrFour (t ∷ u ∷ (3 ⇐ not b) ∷ (4 ⇐ not c) ∷ ts)
-three-or-four t u b c ts h = ⊎-elim (λ e. inl (third t u 3 b _ e)) (λ e. inr (fourth t u (3 ⇐ not b) 4 c ts e)) h
+three-or-four t u b c ts h =
+    ⊎-elim (λ e. inl (later (later (here (3 ⇐ not b) _ (ap not e))))) (λ e. inr (later (later (later (here (4 ⇐ not c) ts (ap not e)))))) h
 
 too-many : (F : Formula) → TooMany F
 too-many F = record {
