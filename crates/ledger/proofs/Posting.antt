@@ -12,7 +12,7 @@ use lib.IntN.{pos}
 use lib.ListN.{length, getD, set, take, drop}
 use lib.Pow.{pow-add, pow-pos}
 use lib.Seq.{take-all}
-use Rattle.algebra.proofs.Booleans.{and-right, neither}
+use Rattle.algebra.proofs.Booleans.{and-left, and-right, neither}
 use Rattle.words.specs.Bytes.{bytesOf, valueOf, field}
 use Rattle.series.specs.Series.{modulus}
 use Rattle.run.specs.Refusal.{refusal}
@@ -23,7 +23,7 @@ use Rattle.run.specs.declared.Answer.{Answer}
 use Rattle.run.specs.declared.Answer.the-variants.{Finished, Refused}
 use Rattle.run.proofs.Range.{range-of, ticket-row, ticket-block}
 use Rattle.run.proofs.Answering.{passes, finished, changed, was-finished, was-refused}
-use Rattle.ledger.specs.Ledger.{viewOf, ledgerSize, markAt, posIn, blocksIn, bitIn, markIn, inOrder, enter}
+use Rattle.ledger.specs.Ledger.{View, viewOf, ledgerSize, markAt, posIn, blocksIn, bitIn, markIn, inOrder, enter}
 use Rattle.ledger.specs.Calls.{ticketRefusal, ticketAnswer, ticketBytes}
 
 -- ---- the bit of a ticket
@@ -72,14 +72,46 @@ mark-is-bit lim s C row block e t = rw (← e, t) refl
 
 -- ---- the tests of a post of one ticket, in their order
 
--- what is known where none applies
+-- what is known where none applies, whatever the ledger is seen by
+pub record TicketTaken (lim : Limits) (v : View) (p C row block : ℕ) (sum : List ℕ) : Type 0 where
+  pub sized : v .sized ≡ true
+  pub sum-sized : length sum ≡ 16
+  pub range : inRange lim p C ≡ true
+  pub ticket : isTicket lim C row block ≡ true
+  pub ordered : v .ordered ≡ true
+  pub same-p : p ≡ v .p
+  pub same-C : C ≡ v .C
+  pub new : v .marked row block ≡ false
+
+pub ticket-taken : (lim : Limits) (v : View) (p C row block : ℕ) (sum : List ℕ) → ticketRefusal lim v p C row block sum ≡ 0
+    → TicketTaken lim v p C row block sum
+unfolding ticketRefusal
+ticket-taken lim v p C row block sum e =
+    let e₁ = passes 0 _ _ e in
+    let e₂ = passes 1 _ _ (e₁ .1) in
+    let e₄ = passes 3 _ _ (e₂ .1) in
+    let e₅ = passes 4 _ _ (e₄ .1) in
+    let e₆ = passes 5 _ _ (e₅ .1) in
+    let e₇ = passes 6 _ _ (e₆ .1) in
+    let sizes = neither (not (v .sized)) (not (eqb (length sum) 16)) (e₁ .0) in
+    let run = not-false (eqb p (v .p) && eqb C (v .C)) (e₆ .0) in
+    record {
+      sized = not-false _ (sizes .0);
+      sum-sized = eqb-true (length sum) 16 (not-false _ (sizes .1));
+      range = not-false _ (e₂ .0);
+      ticket = not-false _ (e₄ .0);
+      ordered = not-false _ (e₅ .0);
+      same-p = eqb-true _ _ (and-left (eqb p (v .p)) _ run);
+      same-C = eqb-true _ _ (and-right (eqb p (v .p)) _ run);
+      new = e₇ .0;
+    }
+
+-- the same of the bytes of a ledger
 pub record Passed (lim : Limits) (s : List ℕ) (p C row block : ℕ) (sum : List ℕ) : Type 0 where
   pub sized : length s ≡ ledgerSize lim
   pub sum-sized : length sum ≡ 16
   pub range : inRange lim p C ≡ true
   pub ticket : isTicket lim C row block ≡ true
-  pub ordered : inOrder lim s ≡ true
-  pub same-run : (eqb p (posIn s) && eqb C (blocksIn s)) ≡ true
   pub unset : bitIn s row block ≡ false
 
 pub inside : {lim : Limits} {s : List ℕ} {p C row block : ℕ} {sum : List ℕ} → Passed lim s p C row block sum → markAt row block < length s
@@ -90,26 +122,15 @@ module _ (lim : Limits) (s : List ℕ) (p C row block : ℕ) (sum : List ℕ) wh
   number = ticketRefusal lim (viewOf lim s) p C row block sum
 
   pub passed : number ≡ 0 → Passed lim s p C row block sum
-  unfolding ticketRefusal viewOf
+  unfolding viewOf
   passed e =
-      let a = passes 0 _ _ e in
-      let b = passes 1 _ _ (a .1) in
-      let c = passes 3 _ _ (b .1) in
-      let d = passes 4 _ _ (c .1) in
-      let f = passes 5 _ _ (d .1) in
-      let g = passes 6 _ _ (f .1) in
-      let sizes = neither (not (eqb (length s) (ledgerSize lim))) (not (eqb (length sum) 16)) (a .0) in
-      let t = not-false (isTicket lim C row block) (c .0) in
-      let r = not-false (eqb p (posIn s) && eqb C (blocksIn s)) (f .0) in
-      let blocks = eqb-true C (blocksIn s) (and-right (eqb p (posIn s)) (eqb C (blocksIn s)) r) in
+      let t = ticket-taken lim (viewOf lim s) p C row block sum e in
       record {
-        sized = eqb-true (length s) (ledgerSize lim) (not-false _ (sizes .0));
-        sum-sized = eqb-true (length sum) 16 (not-false _ (sizes .1));
-        range = not-false (inRange lim p C) (b .0);
-        ticket = t;
-        ordered = not-false (inOrder lim s) (d .0);
-        same-run = r;
-        unset = sym (mark-is-bit lim s C row block blocks t) ∙ g .0;
+        sized = eqb-true (length s) (ledgerSize lim) (t .sized);
+        sum-sized = t .sum-sized;
+        range = t .range;
+        ticket = t .ticket;
+        unset = sym (mark-is-bit lim s C row block (t .same-C) (t .ticket)) ∙ t .new;
       }
 
   pub ledger-size : (length s ≡ ledgerSize lim → ⊥) → number ≡ 1

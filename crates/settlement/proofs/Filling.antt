@@ -8,17 +8,16 @@ use mathlib.Core.List.{List, [], _∷_, _++_, foldl, List·Memᴰ, List·Memᴰ�
 use Prim.Native.Nat.{ℕ, _+_, _%_, _^_, _<_}
 use native.Mathlib.Nat.{mod-add-mod}
 use native.Mathlib.Omega.{arith}
-use borrow.Author.Tests.{eqb-true, eq-eqb, not-false}
+use borrow.Author.Tests.{eqb-true, eq-eqb}
 use lib.Dec.{eqb}
 use lib.ListN.{length}
 use Rattle.algebra.specs.Sum.{sum}
 use Rattle.algebra.proofs.Sums.{sum-ext, sum-zero, sum-bump}
 use Rattle.series.specs.Series.{Formula, rowCount, modulus}
 use Rattle.run.specs.Run.{limitsOf, inRange, isTicket, ticketSum}
-use Rattle.run.proofs.Answering.{passes}
 use Rattle.run.proofs.Range.{ticket-row, ticket-block, is-ticket}
 use Rattle.ledger.specs.Plain.{Plain, Entry, plainView, admit, including, isOf, opened}
-use Rattle.ledger.specs.Calls.{ticketRefusal}
+use Rattle.ledger.proofs.Posting.{ticket-taken}
 use Rattle.ledger.proofs.Image.{Good, including-here, including-else}
 use Rattle.sheet.specs.Sheet.{entries}
 use Rattle.sheet.specs.Posts.{Post, ticket, sheet, postRefusal, postEntries, plainPost, plainPosts, occurring, occurrences, contains}
@@ -78,16 +77,10 @@ module _ (F : Formula) (p C : ℕ) where
 
   -- a post that is taken occurs
   taken-occurs : (s : Plain) (a : Post) → postRefusal (limitsOf F) (plainView s) a ≡ 0 → occurring (limitsOf F) s a ≡ postEntries a
-  unfolding occurring postRefusal ticketRefusal plainView postEntries
+  unfolding occurring postRefusal plainView postEntries
   taken-occurs s (ticket q D row block x) e =
-      let e₁ = passes 0 _ _ e in
-      let e₂ = passes 1 _ _ (e₁ .1) in
-      let e₄ = passes 3 _ _ (e₂ .1) in
-      let e₅ = passes 4 _ _ (e₄ .1) in
-      let e₆ = passes 5 _ _ (e₅ .1) in
-      let a : (eqb q (s .p) && eqb D (s .C)) ≡ true = not-false _ (e₆ .0) in
-      let b : eqb (length x) 16 ≡ true = not-false _ (e₁ .0) in
-      rw (a, b) refl
+      let t = ticket-taken (limitsOf F) (plainView s) q D row block x e in
+      rw (eq-eqb _ _ (t .same-p), eq-eqb _ _ (t .same-C), eq-eqb _ _ (t .sum-sized)) refl
   taken-occurs s (sheet b) e = rw (eq-eqb _ _ e) refl
 
   kept-post : (s : Plain) (a : Post) → Kept s → Right (occurring (limitsOf F) s a) → Kept (plainPost (limitsOf F) s a)

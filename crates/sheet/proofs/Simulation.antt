@@ -20,7 +20,8 @@ use Rattle.run.specs.Run.{Limits, inRange, isTicket}
 use Rattle.run.proofs.Answering.{passes}
 use Rattle.ledger.specs.Ledger.{View, viewOf, fresh}
 use Rattle.ledger.specs.Plain.{Plain, Entry, plainView, encode, admit, including, opened}
-use Rattle.ledger.specs.Calls.{ticketRefusal, ticketAnswer, ticketBytes}
+use Rattle.ledger.specs.Calls.{ticketAnswer, ticketBytes}
+use Rattle.ledger.proofs.Posting.{ticket-taken}
 use Rattle.ledger.proofs.Image.{Good, including-else, view-encode, enter-encode, fresh-encode}
 use Rattle.sheet.specs.Sheet.{every, allTickets, key, sheetLength, sheetMost, sheetPos, sheetBlocks, sheetCount, entries, ascending, wellFormed}
 use Rattle.sheet.specs.Calls.{sheetRefusal, sheetAnswer, sheetBytes, enterEntry}
@@ -156,16 +157,10 @@ sheet-taken lim v b e =
     }
 
 pub post-ready : (lim : Limits) (s : Plain) (a : Post) → postRefusal lim (plainView s) a ≡ 0 → Ready lim s (postEntries a)
-unfolding postRefusal ticketRefusal plainView postEntries
+unfolding postRefusal plainView postEntries
 post-ready lim s (ticket p C row block sum) e =
-    let e₁ = passes 0 _ _ e in
-    let e₂ = passes 1 _ _ (e₁ .1) in
-    let e₄ = passes 3 _ _ (e₂ .1) in
-    let e₅ = passes 4 _ _ (e₄ .1) in
-    let e₆ = passes 5 _ _ (e₅ .1) in
-    let e₇ = passes 6 _ _ (e₆ .1) in
-    let c = eqb-true C (s .C) (and-right (eqb p (s .p)) (eqb C (s .C)) (not-false _ (e₆ .0))) in
-    (subst (λ (n : ℕ). isTicket lim n row block ≡ true) c (not-false _ (e₄ .0)), e₇ .0, tt)
+    let t = ticket-taken lim (plainView s) p C row block sum e in
+    (subst (λ (n : ℕ). isTicket lim n row block ≡ true) (t .same-C) (t .ticket), t .new, tt)
 post-ready lim s (sheet b) e =
     let t = sheet-taken lim (plainView s) b e in
     ready lim s (entries b) (subst (λ (n : ℕ). allTickets lim n (entries b) ≡ true) (t .same-C) (t .tickets)) (t .new) (formed b (t .well-formed))
