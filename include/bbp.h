@@ -36,7 +36,7 @@ extern "C" {
 #endif
 
 /* The version. BBP_VERSION grows from each version to the next, so that #if can compare it. */
-#define BBP_VERSION_MAJOR 1
+#define BBP_VERSION_MAJOR 2
 #define BBP_VERSION_MINOR 0
 #define BBP_VERSION_PATCH 0
 #define BBP_VERSION (1000000 * BBP_VERSION_MAJOR + 1000 * BBP_VERSION_MINOR + BBP_VERSION_PATCH)
@@ -51,11 +51,15 @@ extern "C" {
 #define BBP_ROWS 7
 
 /* Sizes of slices, in bytes. */
-#define BBP_LEDGER_SIZE 256 /* a ledger, exactly */
+#define BBP_LEDGER_SIZE 352 /* a ledger, exactly: 16, and 48 for each row */
 #define BBP_SUM_SIZE 16     /* a ticket's sum, exactly */
 #define BBP_DIGITS_SIZE 32  /* the digits' slice of a closing, exactly */
 #define BBP_LIST_MAX 3584   /* a list of tickets, at most: 2 for each of 7 * 256 tickets */
 #define BBP_SHEET_MAX 35856 /* a sheet that is read or posted, at most */
+
+/* Where a row's sum, 16 bytes, and its marks, 32 bytes, stand in a ledger: row 0 to 6. */
+#define BBP_ROW_SUM_AT(row) (16 + 16 * (row))
+#define BBP_ROW_MARKS_AT(row) (128 + 32 * (row))
 
 /* The length of a sheet of e tickets, and of its list and its sums when read. */
 #define BBP_SHEET_SIZE(e) (16 + 20 * (e))
@@ -70,7 +74,7 @@ extern "C" {
  * compares -answer with these.
  */
 enum bbp_refusal {
-    /* A slice of the wrong size: a ledger not of 256 bytes, a sum not of 16, digits not of 32; a list
+    /* A slice of the wrong size: a ledger not of 352 bytes, a sum not of 16, digits not of 32; a list
        of odd length or over 3,584; a sheet to read or post under 16 or over 35,856; a sheet to write
        under 16 + 20e; read outputs under 2e or 16e, where e is the count in the sheet's head. */
     BBP_REFUSED_SIZE = 1,
@@ -90,7 +94,7 @@ enum bbp_refusal {
     BBP_REFUSED_MARKED = 7,
     /* Closing, and a ticket of the run is not marked. */
     BBP_REFUSED_UNMARKED = 8,
-    /* Closing, and the total does not settle the first digit. */
+    /* Closing, and the total of the row sums does not settle the first digit. */
     BBP_REFUSED_UNSETTLED = 9
 };
 
@@ -103,15 +107,16 @@ enum bbp_refusal {
 int64_t bbp_work(uint64_t p, uint64_t c, uint64_t row, uint64_t block, uint8_t *sum, size_t sum_len);
 
 /*
- * Opens the run (p, c): writes a fresh ledger, with no ticket marked and total
- * 0, over all 256 bytes of `ledger`, whatever they held. Answers 0, or refusal
- * 1 (ledger_len not 256) or 2.
+ * Opens the run (p, c): writes a fresh ledger, with no ticket marked and every
+ * row sum 0, over all 352 bytes of `ledger`, whatever they held. Answers 0, or
+ * refusal 1 (ledger_len not 352) or 2.
  */
 int64_t bbp_open(uint64_t p, uint64_t c, uint8_t *ledger, size_t ledger_len);
 
 /*
  * Posts one ticket with the offered sum (16 bytes; it is not worked again):
- * marks the ticket in the ledger and adds the sum to the total modulo 2^128.
+ * marks the ticket in the ledger and adds the sum to that of the ticket's row
+ * modulo 2^128.
  * Answers 0, or refusal 1, 2, 4, 5, 6 or 7.
  */
 int64_t bbp_post(uint8_t *ledger, size_t ledger_len, uint64_t p, uint64_t c, uint64_t row, uint64_t block,
@@ -138,18 +143,20 @@ int64_t bbp_sheet_read(const uint8_t *sheet, size_t sheet_len, uint8_t *list, si
                        uint8_t *sums, size_t sums_len);
 
 /*
- * Posts every ticket of a sheet, in order, or none: marks them and adds their
- * sums to the total modulo 2^128. Answers 0, or refusal 1 (ledger_len not 256,
- * sheet_len under 16 or over 35,856), 2, 3, 4, 5, 6 or 7.
+ * Posts every ticket of a sheet, in order, or none: marks them and adds each
+ * sum to that of its ticket's row modulo 2^128. Answers 0, or refusal 1
+ * (ledger_len not 352, sheet_len under 16 or over 35,856), 2, 3, 4, 5, 6 or 7.
  */
 int64_t bbp_sheet_post(uint8_t *ledger, size_t ledger_len, const uint8_t *sheet, size_t sheet_len);
 
 /*
  * Closes a ledger: writes the d digits that it settles, d from 1 to 32, as
  * characters 0-9A-F into the first d bytes of `digits`; the other bytes are
- * left as found. The first is the digit at position p. The ledger is not
- * changed. Answers d, or refusal 1 (ledger_len not 256, digits_len not 32), 5,
- * 8 or 9.
+ * left as found. The first is the digit at position p. The total that settles
+ * them is the sum of the seven row sums modulo 2^128. The ledger is not
+ * changed. Answers d, or refusal 1 (ledger_len not 352, digits_len not 32), 5,
+ * 8 or 9. A ledger of 256 bytes, as version 1.0.0 kept it, is closed with the
+ * closing program of that version.
  */
 int64_t bbp_close(const uint8_t *ledger, size_t ledger_len, uint8_t *digits, size_t digits_len);
 
