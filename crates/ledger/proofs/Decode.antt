@@ -16,9 +16,10 @@ use Rattle.algebra.proofs.Below.{all-at}
 use Rattle.words.specs.Bytes.{bytesOf, field, AllBytes}
 use Rattle.words.proofs.Bytes.{field-again, field-lt, part-join}
 use Rattle.run.specs.Run.{Limits, inRange, isTicket}
-use Rattle.ledger.specs.Ledger.{ledgerSize, head, posIn, blocksIn, totalIn, bitIn, markIn, inOrder}
-use Rattle.ledger.specs.Plain.{encode, decode, markByte, markRows}
+use Rattle.ledger.specs.Ledger.{ledgerSize, sumAt, marksAt, head, posIn, blocksIn, rowSumIn, bitIn, markIn, inOrder}
+use Rattle.ledger.specs.Plain.{encode, decode, sumRows, markByte, markRows}
 use Rattle.ledger.proofs.Marks.{mark-at, length-mark-rows}
+use Rattle.ledger.proofs.RowSums.{sums-again}
 use Rattle.ledger.proofs.Image.{Good}
 
 -- a byte of marks is the number that it is read from
@@ -47,62 +48,66 @@ module _ (lim : Limits) (s : List ℕ) (bytes : AllBytes s) (sized : length s �
   unfolding inOrder
   gap = eqb-true _ _ (and-right (inRange lim (posIn s) (blocksIn s)) _ (and-left (inRange lim (posIn s) (blocksIn s) && eqb (field s 10 6) 0) _ ordered))
 
-  clear : (row block : ℕ) → row < lim .rows → block < 256 → (ltb block (blocksIn s) || not (bitIn s row block)) ≡ true
+  clear : (row block : ℕ) → row < lim .rows → block < 256 → (ltb block (blocksIn s) || not (bitIn lim s row block)) ≡ true
   unfolding inOrder
   clear row block h l =
       all-at 256 _ (all-at (lim .rows) _ (and-right (inRange lim (posIn s) (blocksIn s) && eqb (field s 10 6) 0) _ ordered) row h) block l
 
   -- no bit is set at C or above, so the marks of a row are its bits
-  mark-bit : (row block : ℕ) → row < lim .rows → block < 256 → markIn lim s row block ≡ bitIn s row block
+  mark-bit : (row block : ℕ) → row < lim .rows → block < 256 → markIn lim s row block ≡ bitIn lim s row block
   unfolding markIn isTicket
-  mark-bit row block h l = rw (lt-ltb row (lim .rows) h) (go (ltb block (blocksIn s)) (bitIn s row block) (clear row block h l))
+  mark-bit row block h l = rw (lt-ltb row (lim .rows) h) (go (ltb block (blocksIn s)) (bitIn lim s row block) (clear row block h l))
     where
       go : (a b : Bool) → (a || not b) ≡ true → (a && b) ≡ b
       go true b e = refl
       go false b e = sym (not-true b e)
 
-  byte-at : (row k : ℕ) → row < lim .rows → k < 32 → markByte (markIn lim s row) (8 * k) 8 ≡ getD s (32 + (32 * row + k)) 0
+  byte-at : (row k : ℕ) → row < lim .rows → k < 32 → markByte (markIn lim s row) (8 * k) 8 ≡ getD s (marksAt lim + (32 * row + k)) 0
   unfolding AllBytes bitIn
   byte-at row k h l =
-      byte-of (markIn lim s row) (8 * k) 8 (getD s (32 + (32 * row + k)) 0)
+      byte-of (markIn lim s row) (8 * k) 8 (getD s (marksAt lim + (32 * row + k)) 0)
       (λ j m.
       let q : (8 * k + j) / 8 ≡ k = omega arith in
       let r : (8 * k + j) % 8 ≡ j = omega arith in
       mark-bit row (8 * k + j) h (omega arith)
-      ∙ ap₂ (λ (x y : ℕ). eqb (getD s (32 + (32 * row + x)) 0 / 2 ^ y % 2) 1) q r)
-      ∙ mod-eq-of-lt (bytes (32 + (32 * row + k)))
+      ∙ ap₂ (λ (x y : ℕ). eqb (getD s (marksAt lim + (32 * row + x)) 0 / 2 ^ y % 2) 1) q r)
+      ∙ mod-eq-of-lt (bytes (marksAt lim + (32 * row + k)))
 
-  marks-are : markRows (markIn lim s) 0 (lim .rows) ≡ drop 32 s
+  marks-are : markRows (markIn lim s) 0 (lim .rows) ≡ drop (marksAt lim) s
   marks-are =
       let l = length-mark-rows (markIn lim s) 0 (lim .rows) in
-      let d = length-drop 32 s in
-      ext-getD 0 (markRows (markIn lim s) 0 (lim .rows)) (drop 32 s) (omega (arith, l, d, sized))
+      let d = length-drop (marksAt lim) s in
+      ext-getD 0 (markRows (markIn lim s) 0 (lim .rows)) (drop (marksAt lim) s) (omega (arith, l, d, sized))
       (λ i h.
       let q : i ≡ 32 * (i / 32) + i % 32 = omega arith in
       let r : i / 32 < lim .rows = omega (arith, l) in
       ap (λ (x : ℕ). getD (markRows (markIn lim s) 0 (lim .rows)) x 0) q
       ∙ mark-at (markIn lim s) (lim .rows) (i / 32) (i % 32) r (omega arith)
       ∙ byte-at (i / 32) (i % 32) r (omega arith)
-      ∙ ap (λ (x : ℕ). getD s (32 + x) 0) (sym q)
-      ∙ sym (getD-drop 32 s i 0))
+      ∙ ap (λ (x : ℕ). getD s (marksAt lim + x) 0) (sym q)
+      ∙ sym (getD-drop (marksAt lim) s i 0))
 
-  front : head (posIn s) (blocksIn s) ++ bytesOf 16 (totalIn s) ≡ take 32 s
-  unfolding posIn blocksIn totalIn bytesOf
+  head-is : head (posIn s) (blocksIn s) ≡ take 16 s
+  unfolding posIn blocksIn bytesOf
+  head-is =
+      let fits : 16 ≤ length s = omega (arith, sized) in
+      ap₂ _++_ (ap₂ _++_ (field-again s 0 8 bytes (omega arith)) (field-again s 8 2 bytes (omega arith)) ∙ part-join s 0 8 2)
+      (ap (bytesOf 6) (sym gap) ∙ field-again s 10 6 bytes (omega arith)) ∙ part-join s 0 10 6
+
+  front : head (posIn s) (blocksIn s) ++ sumRows (rowSumIn s) 0 (lim .rows) ≡ take (marksAt lim) s
   front =
-      let fits : 32 ≤ length s = omega (arith, sized) in
-      ap₂ _++_ (ap₂ _++_ (ap₂ _++_ (field-again s 0 8 bytes (omega arith)) (field-again s 8 2 bytes (omega arith)) ∙ part-join s 0 8 2)
-      (ap (bytesOf 6) (sym gap) ∙ field-again s 10 6 bytes (omega arith)) ∙ part-join s 0 10 6)
-      (field-again s 16 16 bytes (omega arith)) ∙ part-join s 0 16 16
+      ap (λ (l : List ℕ). l ++ sumRows (rowSumIn s) 0 (lim .rows)) head-is
+      ∙ sums-again s bytes (lim .rows) (omega (arith, sized))
 
   pub encode-decode : encode lim (decode lim s) ≡ s
   unfolding encode decode
-  encode-decode = ap₂ _++_ front marks-are ∙ take-append-drop 32 s
+  encode-decode = ap₂ _++_ front marks-are ∙ take-append-drop (marksAt lim) s
 
   pub good-decode : lim .last < 2 ^ 64 → Good lim (decode lim s)
-  unfolding decode markIn totalIn
+  unfolding decode markIn rowSumIn
   good-decode fits = record {
     fits = fits;
     range = range;
-    total-in = field-lt s 16 16 bytes;
-    tickets-in = λ row block. and-left (isTicket lim (blocksIn s) row block) (bitIn s row block);
+    sums-in = λ row. field-lt s (sumAt row) 16 bytes;
+    tickets-in = λ row block. and-left (isTicket lim (blocksIn s) row block) (bitIn lim s row block);
   }

@@ -1,20 +1,19 @@
--- A ticket entered changes no bit but its own.
+-- A mark set changes no bit but its own.
 -- Assumes nothing.
 use mathlib.Core.Path.{_≡_, refl, sym, ap, _∙_}
 use mathlib.Core.Bool.{Bool, true, false}
 use mathlib.Core.Logic.{_≢_}
-use mathlib.Core.List.{List, _++_}
+use mathlib.Core.List.{List}
 use Prim.Native.Nat.{ℕ, suc, _+_, _*_, _-_, _/_, _%_, _^_, _≤_, _<_}
 use native.Mathlib.Nat.{add-div-right, div-div-eq-div-mul, pow-suc}
 use native.Mathlib.Omega.{arith}
 use borrow.Author.Tests.{eqb-true, eqb-false, ltb-true, ltb-false}
 use lib.Dec.{eqb, ltb}
-use lib.ListN.{length, getD, set, take, drop, length-append, length-drop}
+use lib.ListN.{length, getD, set}
 use lib.Pow.{pow-add, pow-pos}
-use lib.Seq.{length-take-le, getD-append-add, getD-drop, getD-set-same, getD-set-other}
-use Rattle.words.specs.Bytes.{bytesOf}
-use Rattle.words.proofs.Bytes.{length-bytes}
-use Rattle.ledger.specs.Ledger.{markAt, bitIn, enter}
+use lib.Seq.{getD-set-same, getD-set-other}
+use Rattle.run.specs.Run.{Limits}
+use Rattle.ledger.specs.Ledger.{markAt, bitIn, mark}
 use Rattle.ledger.proofs.Marks.{high-off, pow-under}
 
 -- ---- one byte: bit k, which is 0, set
@@ -51,50 +50,25 @@ module _ (b k : ℕ) (off : eqb (b / 2 ^ k % 2) 1 ≡ false) where
 
 -- ---- the ledger
 
--- a total written leaves what is past it
-abbrev totalled : List ℕ → ℕ → List ℕ
-totalled s x = take 16 s ++ bytesOf 16 x ++ drop 32 s
-
-module _ (s : List ℕ) (x : ℕ) (size : 32 ≤ length s) where
-  front : length (take 16 s ++ bytesOf 16 x) ≡ 32
-  front = let l = length-bytes 16 x in let m = length-take-le 16 s (omega arith) in length-append (take 16 s) (bytesOf 16 x) ∙ omega (arith, l, m)
-
-  length-totalled : length (totalled s x) ≡ length s
-  length-totalled =
-      let l = length-drop 32 s in
-      let m = front in
-      length-append (take 16 s ++ bytesOf 16 x) (drop 32 s) ∙ omega (arith, l, m)
-
-  past-total : (n : ℕ) → getD (totalled s x) (32 + n) 0 ≡ getD s (32 + n) 0
-  past-total n =
-      ap (λ (k : ℕ). getD (totalled s x) (k + n) 0) (sym front)
-      ∙ getD-append-add (take 16 s ++ bytesOf 16 x) (drop 32 s) n 0 ∙ getD-drop 32 s n 0
-
-module _ (s : List ℕ) (row block x : ℕ) (here : markAt row block < length s) (off : eqb (getD s (markAt row block) 0 / 2 ^ (block % 8) % 2) 1 ≡ false)
+module _ (lim : Limits) (s : List ℕ) (row block : ℕ) (here : markAt lim row block < length s) (off : bitIn lim s row block ≡ false)
     (r b : ℕ) (h : block < 256) (l : b < 256) (ne : 256 * r + b ≢ 256 * row + block) where
-  size : 32 ≤ length s
-  size = omega arith
-
   abbrev byte : ℕ
-  byte = getD s (markAt row block) 0 + 2 ^ (block % 8)
+  byte = getD s (markAt lim row block) 0 + 2 ^ (block % 8)
 
-  by-byte : (t : Bool) → eqb (markAt r b) (markAt row block) ≡ t
-      → eqb (getD (set (totalled s x) (markAt row block) byte) (markAt r b) 0 / 2 ^ (b % 8) % 2) 1 ≡ eqb (getD s (markAt r b) 0 / 2 ^ (b % 8) % 2) 1
+  by-byte : (t : Bool) → eqb (markAt lim r b) (markAt lim row block) ≡ t
+      → eqb (getD (set s (markAt lim row block) byte) (markAt lim r b) 0 / 2 ^ (b % 8) % 2) 1 ≡ eqb (getD s (markAt lim r b) 0 / 2 ^ (b % 8) % 2) 1
+  unfolding bitIn
   by-byte true e =
-      let same = eqb-true (markAt r b) (markAt row block) e in
+      let same = eqb-true (markAt lim r b) (markAt lim row block) e in
       let bits : b % 8 ≢ block % 8 = λ q. ne (omega (arith, q)) in
-      let long = length-totalled s x size in
-      let read = getD-set-same (totalled s x) (markAt row block) byte 0 (omega (arith, long)) in
-      ap (λ (n : ℕ). eqb (n / 2 ^ (b % 8) % 2) 1) (ap (λ (n : ℕ). getD (set (totalled s x) (markAt row block) byte) n 0) same ∙ read)
-      ∙ ap (λ (n : ℕ). eqb n 1) (other-bit (getD s (markAt row block) 0) (block % 8) off (b % 8) bits)
+      let read = getD-set-same s (markAt lim row block) byte 0 here in
+      ap (λ (n : ℕ). eqb (n / 2 ^ (b % 8) % 2) 1) (ap (λ (n : ℕ). getD (set s (markAt lim row block) byte) n 0) same ∙ read)
+      ∙ ap (λ (n : ℕ). eqb n 1) (other-bit (getD s (markAt lim row block) 0) (block % 8) off (b % 8) bits)
       ∙ ap (λ (n : ℕ). eqb (getD s n 0 / 2 ^ (b % 8) % 2) 1) (sym same)
   by-byte false e =
       ap (λ (n : ℕ). eqb (n / 2 ^ (b % 8) % 2) 1)
-      (getD-set-other (totalled s x) (markAt row block) (markAt r b) byte 0 (eqb-false (markAt r b) (markAt row block) e)
-      ∙ past-total s x size (32 * r + b / 8))
+      (getD-set-other s (markAt lim row block) (markAt lim r b) byte 0 (eqb-false (markAt lim r b) (markAt lim row block) e))
 
-pub bit-kept : (s : List ℕ) (row block x : ℕ) → markAt row block < length s → bitIn s row block ≡ false → (r b : ℕ) → block < 256 → b < 256
-    → 256 * r + b ≢ 256 * row + block → bitIn (enter s row block x) r b ≡ bitIn s r b
-unfolding bitIn enter
-bit-kept s row block x here off r b h l ne =
-    by-byte s row block _ here off r b h l ne (eqb (markAt r b) (markAt row block)) refl
+  pub bit-kept : bitIn lim (mark lim s row block) r b ≡ bitIn lim s r b
+  unfolding bitIn mark
+  bit-kept = by-byte (eqb (markAt lim r b) (markAt lim row block)) refl

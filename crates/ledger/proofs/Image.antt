@@ -1,35 +1,30 @@
 -- The bytes of a plain ledger: what the refusal table sees of them is what it sees of the plain ledger, and a ticket entered makes
 -- of them the bytes of the plain ledger with the ticket put in.
 -- Assumes nothing.
-use mathlib.Core.Path.{_≡_, refl, sym, ap, _∙_}
+use mathlib.Core.Path.{_≡_, refl, sym, ap, ap₂, _∙_}
 use mathlib.Core.Bool.{Bool, true, false, not, _&&_, _||_}
-use mathlib.Core.List.{List, [], _∷_, _++_}
+use mathlib.Core.List.{List, [], _++_, append-assoc}
 use Prim.Native.Nat.{ℕ, _+_, _*_, _-_, _/_, _%_, _^_, _<_}
-use native.Mathlib.Nat.{zero-add, suc-add}
 use native.Mathlib.Omega.{arith}
 use borrow.Author.Tests.{ltb-false, eqb-true, eq-eqb}
 use lib.Dec.{ltb, eqb}
-use lib.ListN.{length, getD, set, take, drop, replicate, replicate-append-replicate}
-use lib.Seq.{getD-drop}
+use lib.ListN.{length, getD, replicate, replicate-append-replicate, length-append}
+use lib.Seq.{getD-append-add}
+use Rattle.algebra.proofs.Sums.{sum-ext}
 use Rattle.algebra.proofs.Below.{all-true}
 use Rattle.words.specs.Bytes.{bytesOf, valueOf, field}
 use Rattle.words.proofs.Bytes.{value-bytes}
 use Rattle.series.specs.Series.{modulus}
 use Rattle.run.specs.Run.{Limits, inRange, isTicket}
 use Rattle.run.proofs.Range.{range-of, ticket-row, ticket-block}
-use Rattle.ledger.specs.Ledger.{ledgerSize, head, posIn, blocksIn, totalIn, bitIn, markIn, inOrder, viewOf, enter, fresh}
-use Rattle.ledger.specs.Plain.{Plain, Entry, plainView, encode, admit, including, markRows, markByte, opened}
-use Rattle.ledger.proofs.Marks.{bit, mark-at, mark-set, byte-bit, length-mark-rows, rows-none}
+use Rattle.ledger.specs.Ledger.{ledgerSize, marksAt, head, posIn, blocksIn, rowSumIn, totalOf, totalIn, bitIn, markIn, inOrder, viewOf, mark, enter, fresh}
+use Rattle.ledger.specs.Plain.{Plain, Entry, plainView, encode, admit, including, adding, sumRows, markRows, markByte, opened}
+use Rattle.ledger.proofs.Marks.{bit, mark-at, mark-set, mark-past, byte-bit, length-mark-rows, rows-none}
+use Rattle.ledger.proofs.RowSums.{length-before, sum-read, add-sums, rows-zero}
 
 bit-eqb : (b : Bool) → eqb (bit b) 1 ≡ b
 bit-eqb true = refl
 bit-eqb false = refl
-
--- a store past the first list
-pub set-append-add : (xs ys : List ℕ) (i a : ℕ) → set (xs ++ ys) (length xs + i) a ≡ xs ++ set ys i a
-set-append-add [] ys i a = ap (λ (n : ℕ). set ys n a) (zero-add i)
-set-append-add (x ∷ xs) ys i a =
-    ap (λ (n : ℕ). set (x ∷ xs ++ ys) n a) (suc-add (length xs) i) ∙ ap (λ (l : List ℕ). x ∷ l) (set-append-add xs ys i a)
 
 -- ---- a set with one ticket more
 
@@ -52,7 +47,7 @@ including-else t set row block ne = go (eqb (t .row) row) refl (eqb (t .block) b
 pub record Good (lim : Limits) (s : Plain) : Type 0 where
   pub fits : lim .last < 2 ^ 64
   pub range : inRange lim (s .p) (s .C) ≡ true
-  pub total-in : s .total < modulus
+  pub sums-in : (row : ℕ) → s .sums row < modulus
   pub tickets-in : (row block : ℕ) → s .tickets row block ≡ true → isTicket lim (s .C) row block ≡ true
 
 module _ (lim : Limits) (s : Plain) (g : Good lim s) where
@@ -64,24 +59,44 @@ module _ (lim : Limits) (s : Plain) (g : Good lim s) where
   unfolding blocksIn field encode bytesOf
   blocks-encode = let h = range-of lim (s .p) (s .C) (g .range) in value-bytes 2 (s .C) (omega arith)
 
-  pub total-encode : totalIn (encode lim s) ≡ s .total
-  unfolding totalIn field encode bytesOf
-  total-encode = value-bytes 16 (s .total) (g .total-in)
+  head-length : length (head (s .p) (s .C)) ≡ 16
+  unfolding bytesOf
+  head-length = refl
+
+  pub sum-encode : (row : ℕ) → row < lim .rows → rowSumIn (encode lim s) row ≡ s .sums row
+  unfolding encode
+  sum-encode row h =
+      sum-read (head (s .p) (s .C)) (markRows (s .tickets) 0 (lim .rows)) head-length (s .sums) (lim .rows) row h (g .sums-in row)
+
+  pub total-encode : totalIn lim (encode lim s) ≡ totalOf lim (s .sums)
+  unfolding totalOf
+  total-encode =
+      ap (λ (n : ℕ). n % modulus) (sum-ext (rowSumIn (encode lim s)) (s .sums) 0 (lim .rows) (λ row l h. sum-encode row (omega arith)))
 
   gap-encode : field (encode lim s) 10 6 ≡ 0
   unfolding field valueOf encode bytesOf
   gap-encode = refl
 
+  front-length : length (head (s .p) (s .C) ++ sumRows (s .sums) 0 (lim .rows)) ≡ marksAt lim
+  front-length = length-before (head (s .p) (s .C)) [] head-length (s .sums) (lim .rows)
+
   pub length-encode : length (encode lim s) ≡ ledgerSize lim
-  unfolding encode bytesOf
-  length-encode = let e = length-mark-rows (s .tickets) 0 (lim .rows) in omega (arith, e)
+  unfolding encode
+  length-encode =
+      let e = length-mark-rows (s .tickets) 0 (lim .rows) in
+      let f = front-length in
+      length-append (head (s .p) (s .C) ++ sumRows (s .sums) 0 (lim .rows)) (markRows (s .tickets) 0 (lim .rows)) ∙ omega (arith, e, f)
 
   -- the mark bytes
-  byte-encode : (row k : ℕ) → row < lim .rows → k < 32 → getD (encode lim s) (32 + (32 * row + k)) 0 ≡ markByte (s .tickets row) (8 * k) 8
-  unfolding encode bytesOf
-  byte-encode row k h l = sym (getD-drop 32 (encode lim s) (32 * row + k) 0) ∙ mark-at (s .tickets) (lim .rows) row k h l
+  byte-encode : (row k : ℕ) → row < lim .rows → k < 32 → getD (encode lim s) (marksAt lim + (32 * row + k)) 0 ≡ markByte (s .tickets row) (8 * k) 8
+  unfolding encode
+  byte-encode row k h l =
+      let front = head (s .p) (s .C) ++ sumRows (s .sums) 0 (lim .rows) in
+      ap (λ (n : ℕ). getD (encode lim s) (n + (32 * row + k)) 0) (sym front-length)
+      ∙ getD-append-add front (markRows (s .tickets) 0 (lim .rows)) (32 * row + k) 0
+      ∙ mark-at (s .tickets) (lim .rows) row k h l
 
-  pub bit-encode : (row block : ℕ) → row < lim .rows → block < 256 → bitIn (encode lim s) row block ≡ s .tickets row block
+  pub bit-encode : (row block : ℕ) → row < lim .rows → block < 256 → bitIn lim (encode lim s) row block ≡ s .tickets row block
   unfolding bitIn
   bit-encode row block h l =
       let e : 8 * (block / 8) + block % 8 ≡ block = omega arith in
@@ -91,7 +106,7 @@ module _ (lim : Limits) (s : Plain) (g : Good lim s) where
       ∙ ap (s .tickets row) e
 
   mark-cases : (row block : ℕ) (b : Bool) → isTicket lim (s .C) row block ≡ b
-      → (b && bitIn (encode lim s) row block) ≡ s .tickets row block
+      → (b && bitIn lim (encode lim s) row block) ≡ s .tickets row block
   mark-cases row block true e =
       let h = range-of lim (s .p) (s .C) (g .range) in
       let l = ticket-block lim (s .C) row block e in
@@ -108,7 +123,7 @@ module _ (lim : Limits) (s : Plain) (g : Good lim s) where
 
   -- ---- in order
 
-  above-clear : (row block : ℕ) → row < lim .rows → block < 256 → (ltb block (s .C) || not (bitIn (encode lim s) row block)) ≡ true
+  above-clear : (row block : ℕ) → row < lim .rows → block < 256 → (ltb block (s .C) || not (bitIn lim (encode lim s) row block)) ≡ true
   above-clear row block h l = rw (bit-encode row block h l) (go (ltb block (s .C)) refl (s .tickets row block) refl)
     where
       go : (a : Bool) → ltb block (s .C) ≡ a → (c : Bool) → s .tickets row block ≡ c → (a || not c) ≡ true
@@ -138,28 +153,28 @@ module _ (lim : Limits) (s : Plain) (g : Good lim s) where
 
   -- a ticket that is not in the set, entered
   pub enter-encode : (t : Entry) → isTicket lim (s .C) (t .row) (t .block) ≡ true → s .tickets (t .row) (t .block) ≡ false
-      → enter (encode lim s) (t .row) (t .block) (t .sum) ≡ encode lim (admit s t)
-  unfolding enter totalIn admit encode bytesOf
+      → enter lim (encode lim s) (t .row) (t .block) (t .sum) ≡ encode lim (admit s t)
+  unfolding enter admit encode
   enter-encode t h new =
       let range = range-of lim (s .p) (s .C) (g .range) in
       let l = ticket-block lim (s .C) (t .row) (t .block) h in
-      let E = encode lim s in
-      let R = markRows (s .tickets) 0 (lim .rows) in
-      let q = 32 * t .row + t .block / 8 in
-      let b = 2 ^ (t .block % 8) in
-      let N = (s .total + t .sum) % modulus in
-      let front = bytesOf 8 (s .p) ++ bytesOf 2 (s .C) ++ replicate 6 0 ++ bytesOf 16 N in
-      ap (λ (T : ℕ). set (take 16 E ++ bytesOf 16 ((T + t .sum) % modulus) ++ drop 32 E) (32 + q) (getD E (32 + q) 0 + b)) total-encode
-      ∙ ap (λ (v : ℕ). set (front ++ R) (32 + q) (v + b)) (sym (getD-drop 32 E q 0))
-      ∙ set-append-add front R q (getD R q 0 + b)
-      ∙ ap (λ (r : List ℕ). front ++ r)
-      (mark-set (s .tickets) (including t (s .tickets)) (lim .rows) (t .row) (t .block) (ticket-row lim (s .C) (t .row) (t .block) h) (omega arith)
+      let row-in = ticket-row lim (s .C) (t .row) (t .block) h in
+      let first = head (s .p) (s .C) in
+      let marks = markRows (s .tickets) 0 (lim .rows) in
+      let sums = adding (t .row) (t .sum) (s .sums) in
+      ap (λ (e : List ℕ). mark lim e (t .row) (t .block)) (add-sums first marks head-length (s .sums) (lim .rows) (t .row) (t .sum) row-in (g .sums-in (t .row)))
+      ∙ mark-past lim (first ++ sumRows sums 0 (lim .rows)) marks (t .row) (t .block) (length-before first marks head-length sums (lim .rows))
+      ∙ ap (λ (m : List ℕ). first ++ sumRows sums 0 (lim .rows) ++ m)
+      (mark-set (s .tickets) (including t (s .tickets)) (lim .rows) (t .row) (t .block) row-in (omega arith)
       new (including-here t (s .tickets)) (including-else t (s .tickets)))
 
 -- ---- the fresh ledger
 
 pub fresh-encode : (lim : Limits) (p C : ℕ) → fresh lim p C ≡ encode lim (opened p C)
-unfolding fresh encode opened bytesOf
+unfolding fresh encode opened
 fresh-encode lim p C =
-    ap (λ (l : List ℕ). head p C ++ l) (sym (replicate-append-replicate 16 (32 * lim .rows) 0))
-    ∙ ap (λ (l : List ℕ). head p C ++ bytesOf 16 0 ++ l) (sym (rows-none 0 (lim .rows)))
+    let e : 16 * lim .rows + 32 * lim .rows ≡ 48 * lim .rows = omega arith in
+    let z : replicate {A = ℕ} (48 * lim .rows) 0 ≡ replicate (16 * lim .rows) 0 ++ replicate (32 * lim .rows) 0 =
+    ap (λ (n : ℕ). replicate {A = ℕ} n 0) (sym e) ∙ sym (replicate-append-replicate (16 * lim .rows) (32 * lim .rows) 0) in
+    ap (λ (l : List ℕ). head p C ++ l) (z ∙ sym (ap₂ _++_ (rows-zero 0 (lim .rows)) (rows-none 0 (lim .rows))))
+    ∙ sym (append-assoc (head p C) (sumRows (λ row. 0) 0 (lim .rows)) (markRows (λ row block. false) 0 (lim .rows)))

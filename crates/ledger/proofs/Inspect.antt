@@ -13,22 +13,22 @@ use Rattle.run.specs.Run.{Limits, inRange}
 use Rattle.ledger.specs.Ledger.{posIn, blocksIn, bitIn, inOrder}
 
 -- no bit of the row is set at C or above: at one block, and in all of the row
-abbrev pub clearAt : List ℕ → ℕ → ℕ → ℕ → Bool
-clearAt s C row block = ltb block C || not (bitIn s row block)
+abbrev pub clearAt : Limits → List ℕ → ℕ → ℕ → ℕ → Bool
+clearAt lim s C row block = ltb block C || not (bitIn lim s row block)
 
-abbrev pub clearRow : List ℕ → ℕ → ℕ → Bool
-clearRow s C row = allBelow 256 (clearAt s C row)
+abbrev pub clearRow : Limits → List ℕ → ℕ → ℕ → Bool
+clearRow lim s C row = allBelow 256 (clearAt lim s C row)
 
-module _ (s : List ℕ) (C row block : ℕ) where
-  pub set-above : (r : Bool) → block < 256 → C ≤ block → r ≡ bitIn s row block → r ≡ true → false ≡ clearRow s C row
-  set-above r h l e t = sym (below-false 256 (clearAt s C row) block h (rw (le-ltb block C l, ← e, t) refl))
+module _ (lim : Limits) (s : List ℕ) (C row block : ℕ) where
+  pub set-above : (r : Bool) → block < 256 → C ≤ block → r ≡ bitIn lim s row block → r ≡ true → false ≡ clearRow lim s C row
+  set-above r h l e t = sym (below-false 256 (clearAt lim s C row) block h (rw (le-ltb block C l, ← e, t) refl))
 
-  pub clear-above : (r : Bool) → C ≤ block → r ≡ bitIn s row block → r ≡ false → allBelow block (clearAt s C row) ≡ true
-      → allBelow (block + 1) (clearAt s C row) ≡ true
-  clear-above r l e t h = below-next block (clearAt s C row) h (rw (le-ltb block C l, ← e, t) refl)
+  pub clear-above : (r : Bool) → C ≤ block → r ≡ bitIn lim s row block → r ≡ false → allBelow block (clearAt lim s C row) ≡ true
+      → allBelow (block + 1) (clearAt lim s C row) ≡ true
+  clear-above r l e t h = below-next block (clearAt lim s C row) h (rw (le-ltb block C l, ← e, t) refl)
 
-  pub clear-below : block < C → allBelow block (clearAt s C row) ≡ true → allBelow (block + 1) (clearAt s C row) ≡ true
-  clear-below l h = below-next block (clearAt s C row) h (rw (lt-ltb block C l) refl)
+  pub clear-below : block < C → allBelow block (clearAt lim s C row) ≡ true → allBelow (block + 1) (clearAt lim s C row) ≡ true
+  clear-below l h = below-next block (clearAt lim s C row) h (rw (lt-ltb block C l) refl)
 
 module _ (lim : Limits) (s : List ℕ) (p C : ℕ) (ep : p ≡ field s 0 8) (eC : C ≡ field s 8 2) where
   pub no-run : inRange lim p C ≡ false → false ≡ inOrder lim s
@@ -39,7 +39,7 @@ module _ (lim : Limits) (s : List ℕ) (p C : ℕ) (ep : p ≡ field s 0 8) (eC 
   unfolding inOrder posIn blocksIn
   not-zero z r e h = rw (← ep, ← eC, r, ← e, ne-eqb z 0 h) refl
 
-  pub by-rows : (z rows : ℕ) (b : Bool) → inRange lim p C ≡ true → z ≡ field s 10 6 → z ≡ 0 → rows ≡ lim .rows
-      → b ≡ allBelow rows (clearRow s C) → b ≡ inOrder lim s
+  pub by-rows : (z : ℕ) (b : Bool) → inRange lim p C ≡ true → z ≡ field s 10 6 → z ≡ 0
+      → b ≡ allBelow (lim .rows) (clearRow lim s C) → b ≡ inOrder lim s
   unfolding inOrder posIn blocksIn
-  by-rows z rows b r e h n f = rw (← ep, ← eC, r, ← e, eq-eqb z 0 h, ← n) f
+  by-rows z b r e h f = rw (← ep, ← eC, r, ← e, eq-eqb z 0 h) f

@@ -3,7 +3,7 @@
 use mathlib.Core.Path.{_≡_, refl, sym, ap, ap₂, _∙_, subst}
 use mathlib.Core.Bool.{Bool, true, false, cond}
 use mathlib.Core.Logic.{_≢_, ⊎-elim}
-use mathlib.Core.List.{List, _∷_, _++_}
+use mathlib.Core.List.{List, [], _∷_, _++_}
 use Prim.Native.Nat.{ℕ, zero, suc, _+_, _*_, _-_, _/_, _%_, _^_, _<_}
 use native.Mathlib.Nat.{add-zero, add-suc, suc-add, zero-add, pow-suc, le-of-suc-le-suc, not-suc-le-zero, one-mul, add-mul-div-right, div-eq-of-lt}
 use native.Mathlib.Omega.{arith}
@@ -13,6 +13,8 @@ use lib.Pow.{pow-pos, pow-add}
 use lib.ListN.{length, replicate, replicate-append-replicate, getD, set, length-set, length-append, List·getD-append}
 use lib.Seq.{getD-append-add, ext-getD, getD-set-same, getD-set-other}
 use Rattle.algebra.proofs.Booleans.{below-or}
+use Rattle.run.specs.Run.{Limits}
+use Rattle.ledger.specs.Ledger.{marksAt, mark}
 use Rattle.ledger.specs.Plain.{markByte, markBytes, markRows}
 
 abbrev pub bit : Bool → ℕ
@@ -188,3 +190,20 @@ rows-none r zero = refl
 rows-none r (suc n) =
     let e : 32 + 32 * n ≡ 32 * suc n = omega arith in
     ap₂ _++_ (bytes-none 0 32) (rows-none (suc r) n) ∙ replicate-append-replicate 32 (32 * n) 0 ∙ ap (λ (k : ℕ). replicate {A = ℕ} k 0) e
+
+-- ---- marks past what stands before them
+
+-- a store past the first list
+set-append-add : (xs ys : List ℕ) (i a : ℕ) → set (xs ++ ys) (length xs + i) a ≡ xs ++ set ys i a
+set-append-add [] ys i a = ap (λ (n : ℕ). set ys n a) (zero-add i)
+set-append-add (x ∷ xs) ys i a =
+    ap (λ (n : ℕ). set (x ∷ xs ++ ys) n a) (suc-add (length xs) i) ∙ ap (λ (l : List ℕ). x ∷ l) (set-append-add xs ys i a)
+
+pub mark-past : (lim : Limits) (front back : List ℕ) (row block : ℕ) → length front ≡ marksAt lim
+    → mark lim (front ++ back) row block ≡ front ++ set back (32 * row + block / 8) (getD back (32 * row + block / 8) 0 + 2 ^ (block % 8))
+unfolding mark
+mark-past lim front back row block e =
+    let q = 32 * row + block / 8 in
+    ap (λ (n : ℕ). set (front ++ back) (n + q) (getD (front ++ back) (n + q) 0 + 2 ^ (block % 8))) (sym e)
+    ∙ ap (λ (x : ℕ). set (front ++ back) (length front + q) (x + 2 ^ (block % 8))) (getD-append-add front back q 0)
+    ∙ set-append-add front back q (getD back q 0 + 2 ^ (block % 8))

@@ -20,7 +20,7 @@ written : (lim : Limits) (p C : ℕ) (s₁ s₂ s₃ : List ℕ) → s₁ ≡ re
     → s₂ ≡ take 0 s₁ ++ bytesOf 8 p ++ drop (0 + 8) s₁ → s₃ ≡ take 8 s₂ ++ bytesOf 2 C ++ drop (8 + 2) s₂ → s₃ ≡ fresh lim p C
 unfolding fresh bytesOf
 written lim p C s₁ s₂ s₃ e₁ e₂ e₃ =
-    let m = 16 + 32 * lim .rows in
+    let m = 48 * lim .rows in
     let n : ledgerSize lim ≡ 16 + m = omega arith in
     let z : s₁ ≡ replicate 16 0 ++ replicate m 0 = e₁ ∙ ap (λ (k : ℕ). replicate k 0) n ∙ sym (replicate-append-replicate 16 m 0) in
     rw (e₃, e₂, z) refl

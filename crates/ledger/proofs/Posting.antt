@@ -42,31 +42,25 @@ bit-fits b k h l e =
     omega (arith, div-add-mod' b (2 ^ k))
 
 -- the mark's byte, as the code makes it
-pub mark-fits : (s : List ℕ) (row block : ℕ) → getD s (markAt row block) 0 < 256 → bitIn s row block ≡ false
-    → (1 * 2 ^ (block % 8) % 256 ≡ 2 ^ (block % 8)) × (getD s (markAt row block) 0 + 1 * 2 ^ (block % 8) % 256 < 256)
+pub mark-fits : (lim : Limits) (s : List ℕ) (row block : ℕ) → getD s (markAt lim row block) 0 < 256 → bitIn lim s row block ≡ false
+    → (1 * 2 ^ (block % 8) % 256 ≡ 2 ^ (block % 8)) × (getD s (markAt lim row block) 0 + 1 * 2 ^ (block % 8) % 256 < 256)
 unfolding bitIn
-mark-fits s row block h e =
-    let l = bit-fits (getD s (markAt row block) 0) (block % 8) h (omega arith) e in
+mark-fits lim s row block h e =
+    let l = bit-fits (getD s (markAt lim row block) 0) (block % 8) h (omega arith) e in
     let m : 1 * 2 ^ (block % 8) % 256 ≡ 2 ^ (block % 8) = ap (λ (n : ℕ). n % 256) (one-mul (2 ^ (block % 8))) ∙ mod-eq-of-lt (omega arith) in
     (m, omega arith)
-
-pub entered : (s t : List ℕ) (row block x total sum byte : ℕ) → total ≡ field s 16 16 → sum ≡ (total + x) % modulus
-    → t ≡ take 16 s ++ bytesOf 16 sum ++ drop (16 + 16) s → byte ≡ getD s (markAt row block) 0 + 2 ^ (block % 8)
-    → set t (markAt row block) byte ≡ enter s row block x
-unfolding enter
-entered s t row block x total sum byte et es e eb = rw (e, es, et, eb) refl
 
 -- ---- the ledger at a ticket of its run
 
 -- the byte of the mark is in the ledger
 pub mark-inside : (lim : Limits) (s : List ℕ) (p C row block : ℕ) → length s ≡ ledgerSize lim → inRange lim p C ≡ true
-    → isTicket lim C row block ≡ true → markAt row block < length s
+    → isTicket lim C row block ≡ true → markAt lim row block < length s
 mark-inside lim s p C row block h r t =
     omega (arith, range-of lim p C r .C-high, ticket-row lim C row block t, ticket-block lim C row block t)
 
 -- a ticket of the ledger's run is marked if its bit is set
 pub mark-is-bit : (lim : Limits) (s : List ℕ) (C row block : ℕ) → C ≡ blocksIn s → isTicket lim C row block ≡ true
-    → markIn lim s row block ≡ bitIn s row block
+    → markIn lim s row block ≡ bitIn lim s row block
 unfolding markIn
 mark-is-bit lim s C row block e t = rw (← e, t) refl
 
@@ -112,10 +106,11 @@ pub record Passed (lim : Limits) (s : List ℕ) (p C row block : ℕ) (sum : Lis
   pub sum-sized : length sum ≡ 16
   pub range : inRange lim p C ≡ true
   pub ticket : isTicket lim C row block ≡ true
-  pub unset : bitIn s row block ≡ false
+  pub unset : bitIn lim s row block ≡ false
 
-pub inside : {lim : Limits} {s : List ℕ} {p C row block : ℕ} {sum : List ℕ} → Passed lim s p C row block sum → markAt row block < length s
-inside {lim} {s} {p} {C} {row} {block} h = mark-inside lim s p C row block (h .sized) (h .range) (h .ticket)
+pub block-low : {lim : Limits} {s : List ℕ} {p C row block : ℕ} {sum : List ℕ} → Passed lim s p C row block sum → block < 256
+block-low {lim} {s} {p} {C} {row} {block} h =
+    omega (arith, range-of lim p C (h .range) .C-high, ticket-block lim C row block (h .ticket))
 
 module _ (lim : Limits) (s : List ℕ) (p C row block : ℕ) (sum : List ℕ) where
   abbrev number : ℕ
@@ -163,11 +158,11 @@ module _ (lim : Limits) (s : List ℕ) (p C row block : ℕ) (sum : List ℕ) wh
         blocks : C ≡ blocksIn s
         blocks = eqb-true C (blocksIn s) (and-right (eqb p (posIn s)) (eqb C (blocksIn s)) u)
 
-        pub marked : bitIn s row block ≡ true → number ≡ 7
+        pub marked : bitIn lim s row block ≡ true → number ≡ 7
         unfolding ticketRefusal refusal viewOf
         marked b = rw (eq-eqb _ _ h, eq-eqb _ _ l, r, t, o, u, mark-is-bit lim s C row block blocks t, b) refl
 
-        pub admitted : bitIn s row block ≡ false → number ≡ 0
+        pub admitted : bitIn lim s row block ≡ false → number ≡ 0
         unfolding ticketRefusal refusal viewOf
         admitted b = rw (eq-eqb _ _ h, eq-eqb _ _ l, r, t, o, u, mark-is-bit lim s C row block blocks t, b) refl
 
@@ -183,12 +178,12 @@ module _ (lim : Limits) (s : List ℕ) (p C row block : ℕ) (sum : List ℕ) (a
   unfolding ticketAnswer
   none-applied v e = passed lim s p C row block sum (was-finished a v _ 0 e tested .0)
 
-  pub posted : (v x : ℕ) (t : List ℕ) → a ≡ Finished v → x ≡ field sum 0 16 → t ≡ enter s row block x
+  pub posted : (v x : ℕ) (t : List ℕ) → a ≡ Finished v → x ≡ field sum 0 16 → t ≡ enter lim s row block x
       → (pos 0 ≡ ticketAnswer lim s p C row block sum) × (t ≡ ticketBytes lim s p C row block sum)
   unfolding ticketAnswer ticketBytes
   posted v x t e ex et =
       let z = was-finished a v _ 0 e tested .0 in
-      (finished _ 0 z, et ∙ ap (enter s row block) (ex ∙ sum-read sum (none-applied v e .sum-sized)) ∙ changed _ _ s z)
+      (finished _ 0 z, et ∙ ap (enter lim s row block) (ex ∙ sum-read sum (none-applied v e .sum-sized)) ∙ changed _ _ s z)
 
   pub not-posted : (r : Refusal) → a ≡ Refused r
       → (answerOf (Refused r) ≡ ticketAnswer lim s p C row block sum) × (s ≡ ticketBytes lim s p C row block sum)

@@ -39,4 +39,4 @@ ticketAnswer lim s p C row block sum = answer (ticketRefusal lim (viewOf lim s) 
 
 unfoldable pub ticketBytes : Limits → List ℕ → ℕ → ℕ → ℕ → ℕ → List ℕ → List ℕ
 ticketBytes lim s p C row block sum =
-    cond (eqb (ticketRefusal lim (viewOf lim s) p C row block sum) 0) (enter s row block (valueOf sum)) s
+    cond (eqb (ticketRefusal lim (viewOf lim s) p C row block sum) 0) (enter lim s row block (valueOf sum)) s

@@ -1,3 +1,4 @@
 pub mod Ledger
 pub mod Plain
+pub mod RowSums
 pub mod Calls

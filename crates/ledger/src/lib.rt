@@ -1,4 +1,5 @@
 // The ledger: its bytes, opening it and posting a ticket.
+pub mod sums;
 use run::Answer;
 use run::Refusal;
 use series::Series;
@@ -11,9 +12,10 @@ ghost use lib.ListN.{length};
 ghost use Rattle.algebra.specs.Test.{allBelow};
 ghost use Rattle.words.specs.Words.{joined};
 ghost use Rattle.series.specs.Names.{formulaOf};
+ghost use Rattle.series.specs.Series.{rowCount};
 ghost use Rattle.run.specs.Run.{limitsOf};
 ghost use Rattle.run.specs.Answers.{answerOf};
-ghost use Rattle.ledger.specs.Ledger.{ledgerSize, markAt, posIn, blocksIn, bitIn, inOrder};
+ghost use Rattle.ledger.specs.Ledger.{ledgerSize, marksAt, markAt, posIn, blocksIn, bitIn, inOrder, mark};
 ghost use Rattle.ledger.specs.Ledger as definition;
 ghost use Rattle.ledger.specs.Calls.{openAnswer, openBytes, ticketAnswer, ticketBytes};
 
@@ -21,7 +23,14 @@ ghost use Rattle.ledger.specs.Calls.{openAnswer, openBytes, ticketAnswer
 pub fn ledger_size(f: Series) -> usize
     ensures { λ r. ⌜ r ≡ ledgerSize (limitsOf (formulaOf f)) ⌝ }
 {
-    32 + 32 * series::limits::row_count(f)
+    16 + 48 * series::limits::row_count(f)
+}
+
+// Where a ledger's marks begin: past the sums of its rows.
+pub fn marks_at(f: Series) -> usize
+    ensures { λ r. ⌜ r ≡ marksAt (limitsOf (formulaOf f)) ⌝ }
+{
+    16 + 16 * series::limits::row_count(f)
 }
 
 // Opens a ledger for the run p, c. Whatever the bytes were, they become a fresh ledger.
@@ -42,25 +51,25 @@ pub fn open(f: Series, p: u64, c: u64, ledger: &mut [u8]) -> Answer
 }
 
 // Whether the bit of a row and block is set.
-pub fn bit_set(s: &[u8], row: usize, block: usize) -> bool
-    requires { ⌜ markAt row block < length (now s) ⌝ }
-    ensures { λ r. ⌜ r ≡ bitIn (now (s .entry)) row block ⌝ }
+pub fn bit_set(f: Series, s: &[u8], row: usize, block: usize) -> bool
+    requires { ⌜ markAt (limitsOf (formulaOf f)) row block < length (now s) ⌝ }
+    ensures { λ r. ⌜ r ≡ bitIn (limitsOf (formulaOf f)) (now (s .entry)) row block ⌝ }
 {
-    let byte = s[32 + (32 * row + block / 8)];
+    let byte = s[marks_at(f) + (32 * row + block / 8)];
     let bit = block % 8;
     let shifted = byte >> bit;
     shifted % 2 == 1
 }
 
 // Whether a row has no bit at c or above.
-pub fn row_clear(s: &[u8], row: usize, c: usize) -> bool
-    requires { ⌜ 64 + 32 * row ≤ length (now s) ⌝ }
-    ensures { λ r. ⌜ r ≡ allBelow 256 (λ block. ltb block c || not (bitIn (now (s .entry)) row block)) ⌝ }
+pub fn row_clear(f: Series, s: &[u8], row: usize, c: usize) -> bool
+    requires { ⌜ (length (now s) ≡ ledgerSize (limitsOf (formulaOf f))) × (row < rowCount (formulaOf f)) ⌝ }
+    ensures { λ r. ⌜ r ≡ allBelow 256 (λ block. ltb block c || not (bitIn (limitsOf (formulaOf f)) (now (s .entry)) row block)) ⌝ }
 {
     let mut block = 0;
     while block < 256 {
         if c <= block {
-            if bit_set(s, row, block) {
+            if bit_set(f, s, row, block) {
                 return false;
             }
         }
@@ -70,13 +79,14 @@ pub fn row_clear(s: &[u8], row: usize, c: usize) -> bool
 }
 
 // Whether none of the rows has a bit at c or above.
-pub fn rows_clear(s: &[u8], rows: usize, c: usize) -> bool
-    requires { ⌜ 32 + 32 * rows ≤ length (now s) ⌝ }
-    ensures { λ r. ⌜ r ≡ allBelow rows (λ row. allBelow 256 (λ block. ltb block c || not (bitIn (now (s .entry)) row block))) ⌝ }
+pub fn rows_clear(f: Series, s: &[u8], c: usize) -> bool
+    requires { ⌜ length (now s) ≡ ledgerSize (limitsOf (formulaOf f)) ⌝ }
+    ensures { λ r. ⌜ r ≡ allBelow (rowCount (formulaOf f)) (λ row. allBelow 256 (λ block. ltb block c || not (bitIn (limitsOf (formulaOf f)) (now (s .entry)) row block))) ⌝ }
 {
+    let rows = series::limits::row_count(f);
     let mut row = 0;
     while row < rows {
-        if !row_clear(s, row, c) {
+        if !row_clear(f, s, row, c) {
             return false;
         }
         row += 1;
@@ -97,7 +107,7 @@ pub fn in_order(f: Series, s: &[u8]) -> bool
     if words::get(s, 10, 6) != 0 {
         return false;
     }
-    rows_clear(s, series::limits::row_count(f), c as usize)
+    rows_clear(f, s, c as usize)
 }
 
 // Whether a ledger's run is p, c.
@@ -112,17 +122,25 @@ pub fn same_run(s: &[u8], p: u64, c: u64) -> bool
     }
 }
 
-// Adds x to the total and sets the bit of a row and block.
-pub fn enter(ledger: &mut [u8], row: usize, block: usize, x: Wide)
-    requires { ⌜ (markAt row block < length (now ledger)) × (bitIn (now ledger) row block ≡ false) ⌝ }
-    ensures { λ _. ⌜ now (ledger .exit) ≡ definition.enter (now (ledger .entry)) row block (joined (x .hi) (x .lo)) ⌝ }
+// Sets the bit of a row and block.
+pub fn set_bit(f: Series, ledger: &mut [u8], row: usize, block: usize)
+    requires { ⌜ (markAt (limitsOf (formulaOf f)) row block < length (now ledger)) × (bitIn (limitsOf (formulaOf f)) (now ledger) row block ≡ false) ⌝ }
+    ensures { λ _. ⌜ now (ledger .exit) ≡ mark (limitsOf (formulaOf f)) (now (ledger .entry)) row block ⌝ }
 {
-    let at = 32 + (32 * row + block / 8);
+    let at = marks_at(f) + (32 * row + block / 8);
     let bit = block % 8;
     let byte = ledger[at] + (1 << bit);
-    let total = words::get_wide(ledger, 16);
-    words::put_wide(ledger, 16, words::add(total, x));
     ledger[at] = byte;
+}
+
+// Adds x to the sum of a row and sets the bit of a row and block.
+pub fn enter(f: Series, ledger: &mut [u8], row: usize, block: usize, x: Wide)
+    requires { ⌜ (length (now ledger) ≡ ledgerSize (limitsOf (formulaOf f))) × (row < rowCount (formulaOf f)) × (block < 256) × (bitIn (limitsOf (formulaOf f)) (now ledger) row block ≡ false) ⌝ }
+    ensures { λ _. ⌜ now (ledger .exit) ≡ definition.enter (limitsOf (formulaOf f)) (now (ledger .entry)) row block (joined (x .hi) (x .lo)) ⌝ }
+{
+    let sums = sums::add_to(sums::get(f, ledger), row, x);
+    set_bit(f, ledger, row, block);
+    sums::put(f, ledger, sums);
 }
 
 // What the refusal table says of a post of one ticket: its tests in the order of their numbers.
@@ -155,7 +173,7 @@ pub fn test_ticket(
     if !same_run(ledger, p, c) {
         return Answer::Refused(Refusal::OtherRun);
     }
-    if bit_set(ledger, row as usize, block as usize) {
+    if bit_set(f, ledger, row as usize, block as usize) {
         return Answer::Refused(Refusal::Marked);
     }
     Answer::Finished(0)
@@ -177,6 +195,7 @@ pub fn post(
     match test_ticket(f, ledger, p, c, row, block, sum) {
         Answer::Finished(_) => {
             enter(
+                f,
                 ledger,
                 row as usize,
                 block as usize,

@@ -1,10 +1,23 @@
 -- `ledger::bit_set` meets its contract: a shift to the right divides by a power of two.
 -- Assumes nothing.
-use mathlib.Core.Path.{refl}
+use mathlib.Core.Path.{_≡_, ap}
+use mathlib.Core.List.{List}
+use Prim.Native.Nat.{ℕ, _+_, _*_, _/_, _%_, _^_}
 use borrow.Author.Needs.{needs}
-use Rattle.ledger.specs.Ledger.{bitIn}
+use lib.Dec.{eqb}
+use lib.ListN.{getD}
+use Rattle.run.specs.Run.{Limits}
+use Rattle.ledger.specs.Ledger.{marksAt, bitIn}
 use Rattle.ledger.proofs.bit_set.Statement.{statement}
 use Rattle.ledger.proofs.bit_set.Tie as tie
+
+law : (lim : Limits) (s : List ℕ) (start row block : ℕ) → start ≡ marksAt lim
+    → eqb (getD s (start + (32 * row + block / 8)) 0 / 2 ^ (block % 8) % 2) 1 ≡ bitIn lim s row block
+unfolding bitIn
+law lim s start row block e = ap (λ (n : ℕ). eqb (getD s (n + (32 * row + block / 8)) 0 / 2 ^ (block % 8) % 2) 1) e
+
+marks-at-requires : tie.Need-marks-at-requires
+marks-at-requires c κs = search needs
 
 mul-byte : tie.Need-mul-byte
 mul-byte c = search needs
@@ -25,10 +38,9 @@ shr-shifted : tie.Need-shr-shifted
 shr-shifted c = search needs
 
 returns : tie.Need-returns
-unfolding bitIn
-returns c = refl
+returns c = law _ _ _ _ _ (c .before .marks-at .ensures)
 
 pub bit-set-spec : {M : Type 1} → statement M
 bit-set-spec =
     tie.close
-    (tie.spec mul-byte add-byte add-byte-2 shared-slice-read-byte cast-shifted shr-shifted returns)
+    (tie.spec marks-at-requires mul-byte add-byte add-byte-2 shared-slice-read-byte cast-shifted shr-shifted returns)

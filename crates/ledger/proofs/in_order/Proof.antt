@@ -30,19 +30,15 @@ returns-2 c =
     not-zero _ _ _ _ (range .before .before .get .ensures) (range .before .get2 .ensures) _
     (sym (range .in-range .ensures) ∙ not-false _ (c .before .before .if1 .left)) (c .before .get3 .ensures) (c .if2 .taken)
 
-row-count-requires : tie.Need-row-count-requires
-row-count-requires c κs = search needs
-
 rows-clear-requires : tie.Need-rows-clear-requires
 rows-clear-requires c κs = search needs
 
 returns-3 : tie.Need-returns-3
 returns-3 c =
-    let zero = c .before .before .before in
+    let zero = c .before .before in
     let range = zero .before .before in
-    by-rows _ _ _ _ (range .before .before .get .ensures) (range .before .get2 .ensures) _ _ _
-    (sym (range .in-range .ensures) ∙ not-false _ (zero .before .if1 .left)) (zero .get3 .ensures) (c .before .before .if2 .left)
-    (c .before .row-count .ensures) (c .rows-clear .ensures)
+    by-rows _ _ _ _ (range .before .before .get .ensures) (range .before .get2 .ensures) _ _
+    (sym (range .in-range .ensures) ∙ not-false _ (zero .before .if1 .left)) (zero .get3 .ensures) (c .before .if2 .left) (c .rows-clear .ensures)
 
 pub in-order-spec : {M : Type 1} → statement M
 in-order-spec =
@@ -54,6 +50,5 @@ in-order-spec =
     returns
     get-requires-3
     returns-2
-    row-count-requires
     rows-clear-requires
     returns-3)

@@ -2,7 +2,8 @@
 -- Assumes nothing.
 use native.Mathlib.Omega.{arith}
 use borrow.Author.Needs.{needs}
-use Rattle.ledger.proofs.Posting.{inside, none-applied, posted, not-posted}
+use Rattle.run.proofs.Range.{ticket-row}
+use Rattle.ledger.proofs.Posting.{block-low, none-applied, posted, not-posted}
 use Rattle.ledger.proofs.post.Statement.{statement}
 use Rattle.ledger.proofs.post.Tie as tie
 
@@ -21,7 +22,7 @@ enter-requires : tie.Need-enter-requires
 enter-requires c κs =
     let told = c .before .before in
     let h = none-applied _ _ _ _ _ _ _ _ (told .before .before .test-ticket .ensures) _ (told .enum-told .given .1) in
-    (inside h, h .unset)
+    (h .sized, ticket-row _ _ _ _ (h .ticket), block-low h, h .unset)
 
 enum-known-r : tie.Need-enum-known-r
 enum-known-r c = search needs

@@ -8,15 +8,17 @@ use native.Mathlib.Omega.{arith}
 use borrow.Author.Needs.{needs}
 use Rattle.algebra.specs.Test.{allBelow}
 use Rattle.algebra.proofs.Below.{below-none}
+use Rattle.series.specs.Names.{formulaOf}
+use Rattle.run.specs.Run.{limitsOf}
 use Rattle.ledger.proofs.Inspect.{clearAt, set-above, clear-above, clear-below}
 use Rattle.ledger.proofs.row_clear.Statement.{statement}
 use Rattle.ledger.proofs.row_clear.Tie as tie
 
 abbrev Inv-loop : tie.InvT-loop
-Inv-loop s row c block₀ block = (block ≤ 256) × (allBelow block (clearAt s c row) ≡ true)
+Inv-loop f s row c block₀ block = (block ≤ 256) × (allBelow block (clearAt (limitsOf (formulaOf f)) s c row) ≡ true)
 
 abbrev μ-loop : tie.MeasureT-loop
-μ-loop s row c block₀ block = 256 - block
+μ-loop f s row c block₀ block = 256 - block
 
 loop-holds : tie.Need-loop-holds Inv-loop μ-loop
 loop-holds c = (omega arith, below-none _)
@@ -26,7 +28,7 @@ bit-set-requires c κs = search needs
 
 returns : tie.Need-returns Inv-loop μ-loop
 returns c =
-    set-above _ _ _ _ _ (c .before .before .before .loop-test .taken) (c .before .before .if1 .taken) (c .before .bit-set .ensures)
+    set-above _ _ _ _ _ _ (c .before .before .before .loop-test .taken) (c .before .before .if1 .taken) (c .before .bit-set .ensures)
     (c .if2 .taken)
 
 add-block : tie.Need-add-block Inv-loop μ-loop
@@ -39,7 +41,7 @@ loop-again : tie.Need-loop-again Inv-loop μ-loop
 loop-again c =
     let passed = c .before .before .loop .inv .1 in (
       omega arith,
-      ⊎-elim (λ w. clear-above _ _ _ _ _ (w .0 .taken) (w .1 .ensures) (w .2 .left) passed) (λ w. clear-below _ _ _ _ (w .left) passed)
+      ⊎-elim (λ w. clear-above _ _ _ _ _ _ (w .0 .taken) (w .1 .ensures) (w .2 .left) passed) (λ w. clear-below _ _ _ _ _ (w .left) passed)
           (c .if1 .came),
     )
 
