@@ -5,7 +5,7 @@ use mathlib.Core.Bool.{Bool, true, false, cond}
 use mathlib.Core.Logic.{_≢_}
 use mathlib.Core.List.{List, [], _++_, append-nil, append-assoc}
 use Prim.Native.Nat.{ℕ, zero, suc, _+_, _*_, _-_, _/_, _%_, _^_, _≤_, _<_}
-use native.Mathlib.Nat.{add-zero, zero-add, suc-add, add-suc, mod-add-mod}
+use native.Mathlib.Nat.{add-zero, zero-add, suc-add, add-suc, mod-add-mod, mod-lt}
 use native.Mathlib.Omega.{arith}
 use borrow.Author.Tests.{eq-eqb, ne-eqb, eqb-true, eqb-false, lt-ltb, le-ltb, ltb-true, ltb-false}
 use lib.Dec.{eqb, ltb}
@@ -101,6 +101,14 @@ adding-here row x v = rw (eq-eqb row row refl) refl
 pub adding-else : (row x : ℕ) (v : ℕ → ℕ) (r : ℕ) → row ≢ r → adding row x v r ≡ v r
 unfolding adding
 adding-else row x v r ne = rw (ne-eqb row r ne) refl
+
+pub adding-fits : (row x : ℕ) (v : ℕ → ℕ) (r : ℕ) → v r < modulus → adding row x v r < modulus
+unfolding adding
+adding-fits row x v r fits = go (eqb row r)
+  where
+    go : (b : Bool) → cond b ((v r + x) % modulus) (v r) < modulus
+    go true = mod-lt (v r + x) (pow-pos 128)
+    go false = fits
 
 -- the other rows stay as they were
 pub add-sums : (front back : List ℕ) → length front ≡ 16 → (v : ℕ → ℕ) (R row x : ℕ) → row < R → v row < modulus

@@ -1,7 +1,7 @@
--- Posting a sheet: the bits of its tickets one by one, and its tickets entered one by one. A ticket entered leaves the bits of the
--- later ones as they were, since the contents ascend.
+-- Posting a sheet: the bits of its tickets one by one, and its tickets entered one by one, the rows' sums held apart from the bytes until
+-- all are in. A mark set leaves the bits of the later tickets as they were, since the contents ascend.
 -- Assumes nothing.
-use mathlib.Core.Path.{_≡_, refl, sym, ap, _∙_}
+use mathlib.Core.Path.{_≡_, refl, sym, ap, ap₂, subst, _∙_}
 use mathlib.Core.Bool.{Bool, true, false, not}
 use mathlib.Core.Logic.{⊎-elim}
 use mathlib.Core.List.{List, [], _∷_, foldl, foldl-append}
@@ -10,61 +10,76 @@ use native.Mathlib.Nat.{not-suc-le-zero}
 use native.Mathlib.Numerals.{add-one}
 use native.Mathlib.Omega.{arith}
 use borrow.Author.Tests.{ltb-true, not-true}
-use lib.Dec.{ltb}
 use lib.ListN.{length}
 use Rattle.algebra.specs.Test.{allBelow}
-use Rattle.algebra.proofs.Booleans.{and-left, and-right, below-or}
+use Rattle.algebra.proofs.Booleans.{below-or}
 use Rattle.algebra.proofs.Below.{all-at, below-false, below-next}
-use Rattle.words.specs.Bytes.{field}
-use Rattle.ledger.specs.Ledger.{markAt, bitIn, enter}
+use Rattle.words.specs.Bytes.{field, AllBytes}
+use Rattle.series.specs.Series.{modulus}
+use Rattle.run.specs.Run.{Limits, isTicket}
+use Rattle.run.proofs.Range.{ticket-row, ticket-block}
+use Rattle.ledger.specs.Ledger.{ledgerSize, markAt, bitIn, mark}
+use Rattle.ledger.specs.Plain.{adding}
+use Rattle.ledger.specs.RowSums.{heldIn, withSums}
 use Rattle.ledger.proofs.Entering.{bit-kept}
-use Rattle.sheet.specs.Sheet.{sheetCount, rowIn, blockIn, sumIn, entriesFrom, entries, every, key, ascending}
-use Rattle.sheet.specs.Tests.{inside, unset, enterable}
+use Rattle.ledger.proofs.RowSums.{with-own, held-fits, adding-fits, enter-with}
+use Rattle.sheet.specs.Sheet.{sheetCount, rowIn, blockIn, sumIn, entriesFrom, entries, every, allTickets, key, ascending}
+use Rattle.sheet.specs.Tests.{unset}
 use Rattle.sheet.specs.Calls.{enterEntry}
 use Rattle.sheet.proofs.Each.{entry, entries-next, every-entries, rises, ascending-entries}
 
 -- ---- the bits, entry by entry
 
-abbrev pub unset-at : List ℕ → List ℕ → ℕ → Bool
-unset-at ledger s i = unset ledger (entry s i)
+abbrev pub unset-at : Limits → List ℕ → List ℕ → ℕ → Bool
+unset-at lim ledger s i = unset lim ledger (entry s i)
 
-module _ (ledger s : List ℕ) (i row block : ℕ) (er : row ≡ rowIn s i) (eb : block ≡ blockIn s i) where
-  pub mark-inside : (n : ℕ) → every (inside ledger) (entriesFrom s 0 n) ≡ true → i < n → markAt row block < length ledger
-  mark-inside n h l =
-      rw (er, eb) (ltb-true _ _ (all-at n (λ j. inside ledger (entry s j)) (sym (every-entries (inside ledger) s n) ∙ h) i l))
+-- entry i of n, each of a row and block that the ledger has
+module _ (lim : Limits) (s : List ℕ) (n : ℕ) (known : allTickets lim 256 (entriesFrom s 0 n) ≡ true) (i : ℕ) (l : i < n) where
+  is-known : isTicket lim 256 (rowIn s i) (blockIn s i) ≡ true
+  is-known = all-at n (λ j. isTicket lim 256 (rowIn s j) (blockIn s j)) (sym (every-entries (λ t. isTicket lim 256 (t .row) (t .block)) s n) ∙ known) i l
 
-  module _ (b : Bool) (tested : b ≡ bitIn ledger row block) where
-    one : b ≡ bitIn ledger (rowIn s i) (blockIn s i)
+  row-in : rowIn s i < lim .rows
+  row-in = ticket-row lim 256 (rowIn s i) (blockIn s i) is-known
+
+  low : blockIn s i < 256
+  low = ticket-block lim 256 (rowIn s i) (blockIn s i) is-known
+
+  there : (ledger : List ℕ) → length ledger ≡ ledgerSize lim → markAt lim (rowIn s i) (blockIn s i) < length ledger
+  there ledger sized = omega (arith, row-in, low, sized)
+
+module _ (lim : Limits) (ledger s : List ℕ) (i row block : ℕ) (er : row ≡ rowIn s i) (eb : block ≡ blockIn s i) where
+  pub mark-inside : (n : ℕ) → length ledger ≡ ledgerSize lim → allTickets lim 256 (entriesFrom s 0 n) ≡ true → i < n → markAt lim row block < length ledger
+  mark-inside n sized known l = rw (er, eb) (there lim s n known i l ledger sized)
+
+  module _ (b : Bool) (tested : b ≡ bitIn lim ledger row block) where
+    one : b ≡ bitIn lim ledger (rowIn s i) (blockIn s i)
     one = rw (← er, ← eb) tested
 
-    pub one-marked : (n : ℕ) → i < n → b ≡ true → false ≡ every (unset ledger) (entriesFrom s 0 n)
-    one-marked n h t = sym (every-entries (unset ledger) s n ∙ below-false n (unset-at ledger s) i h (ap not (sym one ∙ t)))
+    pub one-marked : (n : ℕ) → i < n → b ≡ true → false ≡ every (unset lim ledger) (entriesFrom s 0 n)
+    one-marked n h t = sym (every-entries (unset lim ledger) s n ∙ below-false n (unset-at lim ledger s) i h (ap not (sym one ∙ t)))
 
-    pub one-more : b ≡ false → allBelow i (unset-at ledger s) ≡ true → allBelow (i + 1) (unset-at ledger s) ≡ true
-    one-more t h = below-next i (unset-at ledger s) h (ap not (sym one ∙ t))
+    pub one-more : b ≡ false → allBelow i (unset-at lim ledger s) ≡ true → allBelow (i + 1) (unset-at lim ledger s) ≡ true
+    one-more t h = below-next i (unset-at lim ledger s) h (ap not (sym one ∙ t))
 
 -- ---- the tickets, entry by entry
 
--- after i turns: the first i are in the ledger, and no later one is marked
-abbrev pub Entered : List ℕ → List ℕ → ℕ → List ℕ → ℕ → Type 0
-Entered s first e ledger i =
-    (ledger ≡ foldl enterEntry first (entriesFrom s 0 i)) × ((j : ℕ) → i ≤ j → j < e → bitIn ledger (rowIn s j) (blockIn s j) ≡ false)
+-- after i turns: the bytes with the sums held are the ledger with the first i entered, and no later one is marked
+abbrev pub Entered : Limits → List ℕ → List ℕ → ℕ → List ℕ → (ℕ → ℕ) → ℕ → Type 0
+Entered lim s first e ledger v i =
+    (foldl (enterEntry lim) first (entriesFrom s 0 i) ≡ withSums lim ledger v) × ((row : ℕ) → v row < modulus)
+    × ((j : ℕ) → i ≤ j → j < e → bitIn lim ledger (rowIn s j) (blockIn s j) ≡ false)
 
-module _ (s first : List ℕ) (e : ℕ) (counted : e ≡ sheetCount s) (up : ascending (entries s) ≡ true) (ok : every (enterable first) (entries s) ≡ true) where
-  known : (j : ℕ) → j < e → enterable first (entry s j) ≡ true
+module _ (lim : Limits) (s first : List ℕ) (e : ℕ) (counted : e ≡ sheetCount s) (up : ascending (entries s) ≡ true)
+    (sized : length first ≡ ledgerSize lim) (all-known : allTickets lim 256 (entries s) ≡ true) (none : every (unset lim first) (entries s) ≡ true) where
+  known : allTickets lim 256 (entriesFrom s 0 e) ≡ true
   unfolding entries
-  known j h =
-      all-at e (λ j. enterable first (entry s j))
-      (sym (every-entries (enterable first) s e) ∙ ap (λ (n : ℕ). every (enterable first) (entriesFrom s 0 n)) counted ∙ ok) j h
+  known = ap (λ (n : ℕ). allTickets lim 256 (entriesFrom s 0 n)) counted ∙ all-known
 
-  low : (j : ℕ) → j < e → blockIn s j < 256
-  low j h = ltb-true _ _ (and-left (ltb (blockIn s j) 256) _ (known j h))
-
-  there : (j : ℕ) → j < e → markAt (rowIn s j) (blockIn s j) < length first
-  there j h = ltb-true _ _ (and-left (inside first (entry s j)) _ (and-right (ltb (blockIn s j) 256) _ (known j h)))
-
-  off : (j : ℕ) → j < e → bitIn first (rowIn s j) (blockIn s j) ≡ false
-  off j h = not-true _ (and-right (inside first (entry s j)) _ (and-right (ltb (blockIn s j) 256) _ (known j h)))
+  off : (j : ℕ) → j < e → bitIn lim first (rowIn s j) (blockIn s j) ≡ false
+  unfolding entries
+  off j h =
+      not-true _ (all-at e (unset-at lim first s)
+      (sym (every-entries (unset lim first) s e) ∙ ap (λ (n : ℕ). every (unset lim first) (entriesFrom s 0 n)) counted ∙ none) j h)
 
   neighbour : (j : ℕ) → suc j < e → key (entry s j) < key (entry s (suc j))
   unfolding entries
@@ -83,33 +98,48 @@ module _ (s first : List ℕ) (e : ℕ) (counted : e ≡ sheetCount s) (up : asc
       let n = neighbour j l in
       ⊎-elim (λ m. let k = higher i j m (omega arith) in omega (arith, k, n)) (λ q. rw q n) (below-or i j h)
 
-  pub start : Entered s first e first 0
+  pub start : AllBytes first → (v : ℕ → ℕ) → ((row : ℕ) → v row ≡ heldIn (lim .rows) first row) → Entered lim s first e first v 0
   unfolding entriesFrom
-  start = (refl, λ j h l. off j l)
+  start bytes v read = (
+    sym (with-own lim first (omega (arith, sized)) bytes v read),
+    λ row. subst (λ (n : ℕ). n < modulus) (sym (read row)) (held-fits (lim .rows) first bytes row),
+    λ j h l. off j l,
+  )
 
-  module _ (ledger : List ℕ) (i row block : ℕ) (so-far : Entered s first e ledger i) (size : length ledger ≡ length first) (l : i < e)
-      (er : row ≡ rowIn s i) (eb : block ≡ blockIn s i) where
-    here : markAt (rowIn s i) (blockIn s i) < length ledger
-    here = omega (arith, there i l)
+  module _ (ledger : List ℕ) (v : ℕ → ℕ) (i row block : ℕ) (so-far : Entered lim s first e ledger v i) (size : length ledger ≡ length first) (l : i < e)
+      (er : row ≡ rowIn s i) where
+    pub row-below : row < lim .rows
+    row-below = rw er (row-in lim s e known i l)
 
-    pub may-enter : (markAt row block < length ledger) × (bitIn ledger row block ≡ false)
-    may-enter = rw (er, eb) (here, so-far .1 i (omega arith) l)
+    module _ (eb : block ≡ blockIn s i) where
+      here : markAt lim (rowIn s i) (blockIn s i) < length ledger
+      here = there lim s e known i l ledger (size ∙ sized)
 
-    pub turn : (next : List ℕ) (x : ℕ) → x ≡ field s (16 + 4 * e + 16 * i) 16 → next ≡ enter ledger row block x → Entered s first e next (i + 1)
-    unfolding sumIn
-    turn next x ex en =
-        let sum : x ≡ sumIn s i = ex ∙ ap (λ (n : ℕ). field s (16 + 4 * n + 16 * i) 16) counted in
-        let is : next ≡ enterEntry ledger (entry s i) = en ∙ rw (er, eb, sum) refl in (
-          is ∙ ap (λ (m : List ℕ). enterEntry m (entry s i)) (so-far .0)
-              ∙ sym (ap (foldl enterEntry first) (entries-next s i) ∙ foldl-append enterEntry first (entriesFrom s 0 i) (entry s i ∷ [])),
-          λ j h m.
-              let k = higher i j (omega arith) m in
-              ap (λ (t : List ℕ). bitIn t (rowIn s j) (blockIn s j)) is
-              ∙ bit-kept ledger (rowIn s i) (blockIn s i) (sumIn s i) here (so-far .1 i (omega arith) l) (rowIn s j) (blockIn s j) (low i l) (low j m)
-              (λ q. omega (arith, q, k))
-              ∙ so-far .1 j (omega arith) m,
-        )
+      pub may-mark : (markAt lim row block < length ledger) × (bitIn lim ledger row block ≡ false)
+      may-mark = rw (er, eb) (here, so-far .2 i (omega arith) l)
 
-  pub finish : (ledger : List ℕ) (i : ℕ) → Entered s first e ledger i → i ≡ e → ledger ≡ foldl enterEntry first (entries s)
+      pub turn : (next : List ℕ) (w : ℕ → ℕ) (x : ℕ) → x ≡ field s (16 + 4 * e + 16 * i) 16 → ((r : ℕ) → w r ≡ adding row x v r)
+          → next ≡ mark lim ledger row block → Entered lim s first e next w (i + 1)
+      unfolding sumIn
+      turn next w x ex added en =
+          let sum : x ≡ sumIn s i = ex ∙ ap (λ (n : ℕ). field s (16 + 4 * n + 16 * i) 16) counted in
+          let is : next ≡ mark lim ledger (rowIn s i) (blockIn s i) = en ∙ rw (er, eb) refl in
+          let sums : w ≡ adding (rowIn s i) (sumIn s i) v = (λ k r. added r k) ∙ rw (er, sum) refl in (
+            ap (foldl (enterEntry lim) first) (entries-next s i) ∙ foldl-append (enterEntry lim) first (entriesFrom s 0 i) (entry s i ∷ [])
+                ∙ ap (λ (m : List ℕ). enterEntry lim m (entry s i)) (so-far .0)
+                ∙ enter-with lim ledger (omega (arith, size, sized)) v (rowIn s i) (blockIn s i) (sumIn s i) (row-in lim s e known i l) (so-far .1 (rowIn s i))
+                ∙ sym (ap₂ (withSums lim) is sums),
+            λ r. subst (λ (n : ℕ). n < modulus) (sym (added r)) (adding-fits row x v r (so-far .1 r)),
+            λ j h m.
+                let k = higher i j (omega arith) m in
+                ap (λ (t : List ℕ). bitIn lim t (rowIn s j) (blockIn s j)) is
+                ∙ bit-kept lim ledger (rowIn s i) (blockIn s i) here (so-far .2 i (omega arith) l) (rowIn s j) (blockIn s j) (low lim s e known i l)
+                (low lim s e known j m) (λ q. omega (arith, q, k))
+                ∙ so-far .2 j (omega arith) m,
+          )
+
+  pub finish : (ledger put : List ℕ) (v : ℕ → ℕ) (i : ℕ) → Entered lim s first e ledger v i → i ≡ e → put ≡ withSums lim ledger v
+      → put ≡ foldl (enterEntry lim) first (entries s)
   unfolding entries
-  finish ledger i done q = done .0 ∙ ap (λ (n : ℕ). foldl enterEntry first (entriesFrom s 0 n)) (q ∙ counted)
+  finish ledger put v i done q ep =
+      ep ∙ sym (done .0) ∙ ap (λ (n : ℕ). foldl (enterEntry lim) first (entriesFrom s 0 n)) (q ∙ counted)

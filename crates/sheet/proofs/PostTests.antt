@@ -17,13 +17,13 @@ use Rattle.run.specs.Answers.{answerOf}
 use Rattle.run.specs.declared.Refusal.{Refusal}
 use Rattle.run.specs.declared.Answer.{Answer}
 use Rattle.run.specs.declared.Answer.the-variants.{Finished, Refused}
-use Rattle.run.proofs.Range.{range-of, ticket-block}
+use Rattle.run.proofs.Range.{range-of, ticket-row, ticket-block, is-ticket}
 use Rattle.run.proofs.Answering.{passes, skipped, refused-first, refused, finished, changed, was-finished, was-number, was-refused}
 use Rattle.ledger.specs.Ledger.{viewOf, ledgerSize, posIn, blocksIn, markIn, inOrder}
 use Rattle.ledger.specs.Plain.{Entry}
-use Rattle.ledger.proofs.Posting.{mark-inside, mark-is-bit}
+use Rattle.ledger.proofs.Posting.{mark-is-bit}
 use Rattle.sheet.specs.Sheet.{sheetLength, sheetMost, sheetPos, sheetBlocks, sheetCount, entriesFrom, entries, every, allTickets, ascending, wellFormed}
-use Rattle.sheet.specs.Tests.{byteTests, inside, unset, enterable}
+use Rattle.sheet.specs.Tests.{byteTests, unset}
 use Rattle.sheet.specs.Calls.{enterEntry, sheetRefusal, sheetAnswer, sheetBytes}
 use Rattle.sheet.proofs.Simulation.{every-and, formed, sheet-taken}
 use Rattle.sheet.proofs.Testing.{formed-length}
@@ -37,24 +37,18 @@ every-same f g h same (t ∷ ts) a =
 
 -- ---- tickets of the ledger's run
 
-module _ (lim : Limits) (ledger : List ℕ) (p C : ℕ) (ts : List Entry) (sized : length ledger ≡ ledgerSize lim) (range : inRange lim p C ≡ true)
-    (run : C ≡ blocksIn ledger) (tickets : allTickets lim C ts ≡ true) where
-  is-inside : (t : Entry) → isTicket lim C (t .row) (t .block) ≡ true → inside ledger t ≡ true
-  is-inside t h = lt-ltb _ _ (mark-inside lim ledger p C (t .row) (t .block) sized range h)
-
-  all-inside : every (inside ledger) ts ≡ true
-  all-inside = every-and _ _ (inside ledger) (λ t h l. is-inside t h) ts tickets tickets
-
-  by-bits : every (λ t. not (markIn lim ledger (t .row) (t .block))) ts ≡ every (unset ledger) ts
-  by-bits = every-same _ (unset ledger) _ (λ t h. ap not (mark-is-bit lim ledger C (t .row) (t .block) run h)) ts tickets
-
-  all-enterable : every (λ t. not (markIn lim ledger (t .row) (t .block))) ts ≡ true → every (enterable ledger) ts ≡ true
-  all-enterable none = every-and _ _ (enterable ledger)
-      (λ t h u.
+module _ (lim : Limits) (ledger : List ℕ) (p C : ℕ) (ts : List Entry) (range : inRange lim p C ≡ true) (tickets : allTickets lim C ts ≡ true) where
+  -- a run has at most 256 blocks, as many as a ledger has marks in a row
+  all-known : allTickets lim 256 ts ≡ true
+  all-known = every-and _ _ (λ t. isTicket lim 256 (t .row) (t .block))
+      (λ t h l.
       let few = range-of lim p C range .C-high in
       let low = ticket-block lim C (t .row) (t .block) h in
-      and-both _ _ (lt-ltb (t .block) 256 (omega arith)) (and-both _ _ (is-inside t h) u))
-      ts tickets (sym by-bits ∙ none)
+      is-ticket lim 256 (t .row) (t .block) (ticket-row lim C (t .row) (t .block) h) (omega arith))
+      ts tickets tickets
+
+  by-bits : C ≡ blocksIn ledger → every (λ t. not (markIn lim ledger (t .row) (t .block))) ts ≡ every (unset lim ledger) ts
+  by-bits run = every-same _ (unset lim ledger) _ (λ t h. ap not (mark-is-bit lim ledger C (t .row) (t .block) run h)) ts tickets
 
 -- ---- the tests in their order
 
@@ -129,14 +123,14 @@ module _ (lim : Limits) (ledger s : List ℕ) where
               unfolding entries
               all = ap (entriesFrom s 0) (sym counted)
 
-              pub may-look : (16 + 4 * e ≤ length s) × (every (inside ledger) (entriesFrom s 0 e) ≡ true)
+              pub may-look : (16 + 4 * e ≤ length s) × (length ledger ≡ ledgerSize lim) × (allTickets lim 256 (entriesFrom s 0 e) ≡ true)
               may-look =
                   let l = formed-length s form in
-                  (omega (arith, l, counted), ap (every (inside ledger)) (sym all) ∙ all-inside lim ledger _ _ (entries s) sized range run tickets)
+                  (omega (arith, l, counted), sized, ap (allTickets lim 256) (sym all) ∙ all-known lim ledger _ _ (entries s) range tickets)
 
-              module _ (n : Bool) (none : n ≡ every (unset ledger) (entriesFrom s 0 e)) where
+              module _ (n : Bool) (none : n ≡ every (unset lim ledger) (entriesFrom s 0 e)) where
                 marks : every (λ t. not (markIn lim ledger (t .row) (t .block))) (entries s) ≡ n
-                marks = by-bits lim ledger _ _ (entries s) sized range run tickets ∙ ap (every (unset ledger)) all ∙ sym none
+                marks = by-bits lim ledger _ _ (entries s) range tickets run ∙ ap (every (unset lim ledger)) all ∙ sym none
 
                 pub one-marked : n ≡ false → negsuc 6 ≡ sheetAnswer lim ledger s
                 unfolding sheetAnswer refusal sheetPos sheetBlocks
@@ -150,17 +144,19 @@ module _ (lim : Limits) (ledger s : List ℕ) where
 
 module _ (lim : Limits) (ledger s : List ℕ) (a : Answer) (tested : answerOf a ≡ sheetAnswer lim ledger s) where
   pub none-applied : (v : ℕ) → a ≡ Finished v
-      → (length s ≡ sheetLength (sheetCount s)) × (ascending (entries s) ≡ true) × (every (enterable ledger) (entries s) ≡ true)
+      → (length s ≡ sheetLength (sheetCount s)) × (ascending (entries s) ≡ true) × (length ledger ≡ ledgerSize lim)
+      × (allTickets lim 256 (entries s) ≡ true) × (every (unset lim ledger) (entries s) ≡ true)
   unfolding sheetAnswer viewOf
   none-applied v f =
       let t = sheet-taken lim (viewOf lim ledger) s (was-finished a v _ 0 f tested .0) in (
         formed-length s (t .well-formed),
         formed s (t .well-formed),
-        all-enterable lim ledger (sheetPos s) (sheetBlocks s) (entries s) (eqb-true (length ledger) (ledgerSize lim) (t .sized)) (t .range) (t .same-C)
-            (t .tickets) (t .new),
+        eqb-true (length ledger) (ledgerSize lim) (t .sized),
+        all-known lim ledger (sheetPos s) (sheetBlocks s) (entries s) (t .range) (t .tickets),
+        sym (by-bits lim ledger (sheetPos s) (sheetBlocks s) (entries s) (t .range) (t .tickets) (t .same-C)) ∙ t .new,
       )
 
-  pub posted : (v : ℕ) (t : List ℕ) → a ≡ Finished v → t ≡ foldl enterEntry ledger (entries s)
+  pub posted : (v : ℕ) (t : List ℕ) → a ≡ Finished v → t ≡ foldl (enterEntry lim) ledger (entries s)
       → (pos 0 ≡ sheetAnswer lim ledger s) × (t ≡ sheetBytes lim ledger s)
   unfolding sheetAnswer sheetBytes
   posted v t f et = let z = was-finished a v _ 0 f tested .0 in (finished _ 0 z, et ∙ changed _ _ ledger z)

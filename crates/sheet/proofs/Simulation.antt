@@ -5,7 +5,6 @@ use mathlib.Core.Path.{_≡_, refl, sym, ap, ap₂, _∙_, subst}
 use mathlib.Core.Bool.{Bool, true, false, cond, not, _&&_, _||_}
 use mathlib.Core.List.{List, [], _∷_, foldl}
 use Prim.Native.Nat.{ℕ, _+_, _*_, _^_, _<_, _≤_}
-use native.Mathlib.Nat.{mod-lt}
 use native.Mathlib.Omega.{arith}
 use borrow.Author.Tests.{ltb-true, ltb-false, eqb-true, eqb-false, lt-ltb, not-true, not-false}
 use lib.Dec.{ltb, eqb}
@@ -22,6 +21,7 @@ use Rattle.ledger.specs.Ledger.{View, viewOf, fresh}
 use Rattle.ledger.specs.Plain.{Plain, Entry, plainView, encode, admit, including, opened}
 use Rattle.ledger.specs.Calls.{ticketAnswer, ticketBytes}
 use Rattle.ledger.proofs.Posting.{ticket-taken}
+use Rattle.ledger.proofs.RowSums.{adding-fits}
 use Rattle.ledger.proofs.Image.{Good, including-else, view-encode, enter-encode, fresh-encode}
 use Rattle.sheet.specs.Sheet.{every, allTickets, key, sheetLength, sheetMost, sheetPos, sheetBlocks, sheetCount, entries, ascending, wellFormed}
 use Rattle.sheet.specs.Calls.{sheetRefusal, sheetAnswer, sheetBytes, enterEntry}
@@ -31,7 +31,7 @@ use Rattle.sheet.specs.Posts.{Post, ticket, sheet, postRefusal, postEntr
 
 pub good-opened : (lim : Limits) (p C : ℕ) → lim .last < 2 ^ 64 → inRange lim p C ≡ true → Good lim (opened p C)
 unfolding opened
-good-opened lim p C h e = record { fits = h; range = e; total-in = pow-pos 128; tickets-in = λ row block f. cc }
+good-opened lim p C h e = record { fits = h; range = e; sums-in = λ row. pow-pos 128; tickets-in = λ row block f. cc }
 
 -- ---- one ticket
 
@@ -40,7 +40,7 @@ unfolding admit
 good-admit lim s t g h = record {
   fits = g .fits;
   range = g .range;
-  total-in = mod-lt (s .total + t .sum) (pow-pos 128);
+  sums-in = λ row. adding-fits (t .row) (t .sum) (s .sums) row (g .sums-in row);
   tickets-in = λ row block. go row block (eqb (t .row) row) refl (eqb (t .block) block) refl;
 }
   where
@@ -61,11 +61,11 @@ Ready lim s [] = Unit {0}
 Ready lim s (t ∷ ts) = (isTicket lim (s .C) (t .row) (t .block) ≡ true) × (s .tickets (t .row) (t .block) ≡ false) × Ready lim (admit s t) ts
 
 pub entered : (lim : Limits) (s : Plain) (ts : List Entry) → Good lim s → Ready lim s ts
-    → (foldl enterEntry (encode lim s) ts ≡ encode lim (foldl admit s ts)) × Good lim (foldl admit s ts)
+    → (foldl (enterEntry lim) (encode lim s) ts ≡ encode lim (foldl admit s ts)) × Good lim (foldl admit s ts)
 entered lim s [] g r = (refl, g)
 entered lim s (t ∷ ts) g r =
     let rest = entered lim (admit s t) ts (good-admit lim s t g (r .0)) (r .2) in
-    (ap (λ (l : List ℕ). foldl enterEntry l ts) (enter-encode lim s g t (r .0) (r .1)) ∙ rest .0, rest .1)
+    (ap (λ (l : List ℕ). foldl (enterEntry lim) l ts) (enter-encode lim s g t (r .0) (r .1)) ∙ rest .0, rest .1)
 
 -- ---- a sheet's tickets are ready
 
@@ -168,7 +168,7 @@ post-ready lim s (sheet b) e =
 -- ---- one post: both calls test the same table, and put in the tickets that the post names
 
 post-bytes : (lim : Limits) (s : List ℕ) (a : Post)
-    → postBytes lim s a ≡ cond (eqb (postRefusal lim (viewOf lim s) a) 0) (foldl enterEntry s (postEntries a)) s
+    → postBytes lim s a ≡ cond (eqb (postRefusal lim (viewOf lim s) a) 0) (foldl (enterEntry lim) s (postEntries a)) s
 unfolding postBytes ticketBytes sheetBytes postRefusal postEntries
 post-bytes lim s (ticket p C row block sum) = refl
 post-bytes lim s (sheet b) = refl
@@ -184,7 +184,7 @@ unfolding plainPost
 step lim s a g = rw (post-bytes lim (encode lim s) a, view-encode lim s g) (go (eqb (postRefusal lim (plainView s) a) 0) refl)
   where
     go : (b : Bool) → eqb (postRefusal lim (plainView s) a) 0 ≡ b
-        → (cond b (foldl enterEntry (encode lim s) (postEntries a)) (encode lim s) ≡ encode lim (cond b (foldl admit s (postEntries a)) s))
+        → (cond b (foldl (enterEntry lim) (encode lim s) (postEntries a)) (encode lim s) ≡ encode lim (cond b (foldl admit s (postEntries a)) s))
         × Good lim (cond b (foldl admit s (postEntries a)) s)
     go true e = entered lim s (postEntries a) g (post-ready lim s a (eqb-true _ _ e))
     go false e = (refl, g)

@@ -68,12 +68,12 @@ unfoldable pub sheetRefusal : Limits → View → List ℕ → ℕ
 sheetRefusal lim v s = refusal (sheetTests lim v s)
 
 -- one entry of a sheet put into a ledger
-abbrev pub enterEntry : List ℕ → Entry → List ℕ
-enterEntry s t = enter s (t .row) (t .block) (t .sum)
+abbrev pub enterEntry : Limits → List ℕ → Entry → List ℕ
+enterEntry lim s t = enter lim s (t .row) (t .block) (t .sum)
 
 unfoldable pub sheetAnswer : Limits → List ℕ → List ℕ → ℤ
 sheetAnswer lim ledger s = answer (sheetRefusal lim (viewOf lim ledger) s) 0
 
 -- all of its tickets in order, or none
 unfoldable pub sheetBytes : Limits → List ℕ → List ℕ → List ℕ
-sheetBytes lim ledger s = cond (eqb (sheetRefusal lim (viewOf lim ledger) s) 0) (foldl enterEntry ledger (entries s)) ledger
+sheetBytes lim ledger s = cond (eqb (sheetRefusal lim (viewOf lim ledger) s) 0) (foldl (enterEntry lim) ledger (entries s)) ledger

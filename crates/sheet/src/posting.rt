@@ -11,18 +11,20 @@ ghost use lib.ListN.{length};
 ghost use Rattle.series.specs.Names.{formulaOf};
 ghost use Rattle.run.specs.Run.{limitsOf};
 ghost use Rattle.run.specs.Answers.{answerOf};
-ghost use Rattle.sheet.specs.Sheet.{sheetLength, sheetCount, entriesFrom, entries, every, ascending};
-ghost use Rattle.sheet.specs.Tests.{inside, unset, enterable};
+ghost use Rattle.ledger.specs.Ledger.{ledgerSize};
+ghost use Rattle.sheet.specs.Sheet.{sheetLength, sheetCount, entriesFrom, entries, every, allTickets, ascending};
+ghost use Rattle.sheet.specs.Tests.{unset};
 ghost use Rattle.sheet.specs.Calls.{enterEntry, sheetAnswer, sheetBytes};
 
-// Whether none of e entries, whose marks' bytes are all in the ledger, has its bit set.
-pub fn none_marked(ledger: &[u8], s: &[u8], e: usize) -> bool
-    requires { ⌜ (16 + 4 * e ≤ length (now s)) × (every (inside (now ledger)) (entriesFrom (now s) 0 e) ≡ true) ⌝ }
-    ensures { λ r. ⌜ r ≡ every (unset (now (ledger .entry))) (entriesFrom (now (s .entry)) 0 e) ⌝ }
+// Whether none of e entries, each of a row and block that the ledger has, has its bit set.
+pub fn none_marked(f: Series, ledger: &[u8], s: &[u8], e: usize) -> bool
+    requires { ⌜ (16 + 4 * e ≤ length (now s)) × (length (now ledger) ≡ ledgerSize (limitsOf (formulaOf f))) × (allTickets (limitsOf (formulaOf f)) 256 (entriesFrom (now s) 0 e) ≡ true) ⌝ }
+    ensures { λ r. ⌜ r ≡ every (unset (limitsOf (formulaOf f)) (now (ledger .entry))) (entriesFrom (now (s .entry)) 0 e) ⌝ }
 {
     let mut i = 0;
     while i < e {
         if ledger::bit_set(
+            f,
             ledger,
             contents::row(s, i) as usize,
             contents::block(s, i) as usize,
@@ -56,29 +58,30 @@ pub fn test_sheet(f: Series, ledger: &[u8], s: &[u8]) -> Answer
     if !ledger::same_run(ledger, words::get(s, 0, 8), words::get(s, 8, 2)) {
         return Answer::Refused(Refusal::OtherRun);
     }
-    if !none_marked(ledger, s, contents::count(s)) {
+    if !none_marked(f, ledger, s, contents::count(s)) {
         return Answer::Refused(Refusal::Marked);
     }
     Answer::Finished(0)
 }
 
-// Enters every ticket of a sheet, in order. They ascend, so no ticket sets the bit of another.
-pub fn enter_all(ledger: &mut [u8], s: &[u8])
-    requires { ⌜ (length (now s) ≡ sheetLength (sheetCount (now s))) × (ascending (entries (now s)) ≡ true) × (every (enterable (now ledger)) (entries (now s)) ≡ true) ⌝ }
-    ensures { λ _. ⌜ now (ledger .exit) ≡ foldl enterEntry (now (ledger .entry)) (entries (now (s .entry))) ⌝ }
+// Enters every ticket of a sheet, in order: the rows' sums are read once and put back once. The tickets ascend, so none sets the bit of
+// another.
+pub fn enter_all(f: Series, ledger: &mut [u8], s: &[u8])
+    requires { ⌜ (length (now s) ≡ sheetLength (sheetCount (now s))) × (ascending (entries (now s)) ≡ true) × (length (now ledger) ≡ ledgerSize (limitsOf (formulaOf f))) × (allTickets (limitsOf (formulaOf f)) 256 (entries (now s)) ≡ true) × (every (unset (limitsOf (formulaOf f)) (now ledger)) (entries (now s)) ≡ true) ⌝ }
+    ensures { λ _. ⌜ now (ledger .exit) ≡ foldl (enterEntry (limitsOf (formulaOf f))) (now (ledger .entry)) (entries (now (s .entry))) ⌝ }
 {
     let e = contents::count(s);
+    let mut sums = ledger::sums::get(f, ledger);
     let mut i = 0;
     while i < e {
+        let row = contents::row(s, i) as usize;
         let sum = words::get_wide(s, 16 + 4 * e + 16 * i);
-        ledger::enter(
-            ledger,
-            contents::row(s, i) as usize,
-            contents::block(s, i) as usize,
-            sum,
-        );
+        let changed = ledger::sums::add_to(sums, row, sum);
+        sums = changed;
+        ledger::set_bit(f, ledger, row, contents::block(s, i) as usize);
         i += 1;
     }
+    ledger::sums::put(f, ledger, sums);
 }
 
 // Posts a sheet. All tests are done before a byte is written.
@@ -88,7 +91,7 @@ pub fn post(f: Series, ledger: &mut [u8], s: &[u8]) -> Answer
 {
     match test_sheet(f, ledger, s) {
         Answer::Finished(_) => {
-            enter_all(ledger, s);
+            enter_all(f, ledger, s);
             Answer::Finished(0)
         }
         Answer::Refused(r) => Answer::Refused(r),

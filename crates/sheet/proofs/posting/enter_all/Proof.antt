@@ -1,27 +1,44 @@
--- `sheet::posting::enter_all` meets its contract: after i turns the first i tickets are in the ledger, and no later one is marked.
+-- `sheet::posting::enter_all` meets its contract: after i turns the bytes with the sums held are the ledger with the first i tickets in it,
+-- and no later one is marked.
 -- Assumes nothing.
-use mathlib.Core.Path.{_≡_, refl}
+use mathlib.Core.Path.{_≡_, refl, _∙_}
 use Prim.Native.Nat.{_≤_, _-_}
 use native.Mathlib.Omega.{arith}
 use borrow.Author.Needs.{needs}
+use denote.Ref.{now}
 use lib.ListN.{length}
-use Rattle.sheet.proofs.Admitting.{Entered, start, may-enter, turn, finish}
+use Rattle.words.specs.Bytes.{AllBytes}
+use Rattle.series.specs.Names.{formulaOf}
+use Rattle.series.proofs.FewRows.{few-rows}
+use Rattle.run.specs.Run.{limitsOf}
+use Rattle.ledger.specs.RowSums.{valueAt}
+use Rattle.sheet.proofs.Admitting.{Entered, start, row-below, may-mark, turn, finish}
 use Rattle.sheet.proofs.posting.enter_all.Statement.{statement}
 use Rattle.sheet.proofs.posting.enter_all.Tie as tie
 
 abbrev Inv-loop : tie.InvT-loop
-Inv-loop ledger₀ s e i₀ ledger i = (i ≤ e) × (length ledger ≡ length ledger₀) × Entered s ledger₀ e ledger i
+Inv-loop f ledger₀ s e sums₀ i₀ ledger sums i =
+    (i ≤ e) × (length ledger ≡ length ledger₀) × Entered (limitsOf (formulaOf f)) s ledger₀ e ledger (valueAt sums) i
 
 abbrev μ-loop : tie.MeasureT-loop
-μ-loop ledger₀ s e i₀ ledger i = e - i
+μ-loop f ledger₀ s e sums₀ i₀ ledger sums i = e - i
 
 count-requires : tie.Need-count-requires Inv-loop μ-loop
 count-requires c κs = omega arith
 
+get-requires : tie.Need-get-requires Inv-loop μ-loop
+get-requires c κs = search needs
+
 loop-holds : tie.Need-loop-holds Inv-loop μ-loop
+unfolding AllBytes
 loop-holds c =
-    let given = c .before .before .before .pre in
-    (omega arith, refl, start _ _ _ (c .count .ensures .0) (given .1) (given .2))
+    let count = c .before .before in
+    let known = count .before .before in
+    let given = known .before .pre in
+    (omega arith, refl, start _ _ _ _ (count .count .ensures .0) (given .1) (given .2) (given .3) (given .4) (λ i. known .slice-known .given i .fits) _ (c .get .ensures))
+
+row-requires : tie.Need-row-requires Inv-loop μ-loop
+row-requires c κs = omega arith
 
 mul-get-wide : tie.Need-mul-get-wide Inv-loop μ-loop
 mul-get-wide c = omega arith
@@ -38,19 +55,27 @@ add-get-wide-2 c = omega arith
 get-wide-requires : tie.Need-get-wide-requires Inv-loop μ-loop
 get-wide-requires c κs = omega arith
 
-row-requires : tie.Need-row-requires Inv-loop μ-loop
-row-requires c κs = omega arith
+add-to-requires : tie.Need-add-to-requires Inv-loop μ-loop
+add-to-requires c κs =
+    let test = c .before .before in
+    let loop = test .before in
+    let first = loop .before .before .before .before .before .before in
+    let given = first .pre in
+    let below = row-below _ _ (now (first .args .ledger)) _ (loop .before .before .before .count .ensures .0) (given .1) (given .2) (given .3) (given .4) _ _ _ _ 0
+    (loop .loop .inv .2) (loop .loop .inv .1) (test .loop-test .taken) (c .before .row .ensures .0) in
+    omega (arith, below, few-rows (first .args .f))
 
 block-requires : tie.Need-block-requires Inv-loop μ-loop
 block-requires c κs = omega arith
 
-enter-requires : tie.Need-enter-requires Inv-loop μ-loop
-enter-requires c κs =
-    let test = c .before .before .before .before in
+set-bit-requires : tie.Need-set-bit-requires Inv-loop μ-loop
+set-bit-requires c κs =
+    let test = c .before .before .before .before .before in
     let loop = test .before in
-    let given = loop .before .before .before .before .pre in
-    may-enter _ _ _ (loop .before .count .ensures .0) (given .1) (given .2) _ _ _ _ (loop .loop .inv .2) (loop .loop .inv .1) (test .loop-test .taken)
-    (c .before .row .ensures .0) (c .block .ensures .0)
+    let first = loop .before .before .before .before .before .before in
+    let given = first .pre in
+    may-mark _ _ _ _ (loop .before .before .before .count .ensures .0) (given .1) (given .2) (given .3) (given .4) _ _ _ _ _
+    (loop .loop .inv .2) (loop .loop .inv .1) (test .loop-test .taken) (c .before .before .before .before .row .ensures .0) (c .block .ensures .0)
 
 add-i : tie.Need-add-i Inv-loop μ-loop
 add-i c = omega arith
@@ -60,25 +85,40 @@ loop-less c = omega arith
 
 loop-again : tie.Need-loop-again Inv-loop μ-loop
 loop-again c =
-    let entered = c .before .before in
-    let read = entered .before .before .before .before in
-    let loop = read .before .before in
-    let given = loop .before .before .before .before .pre in (
+    let marked = c .before .before in
+    let block = marked .before in
+    let added = block .before .before in
+    let read = added .before in
+    let row = read .before in
+    let test = row .before in
+    let loop = test .before in
+    let first = loop .before .before .before .before .before .before in
+    let given = first .pre in (
       omega arith,
       search needs,
-      turn _ _ _ (loop .before .count .ensures .0) (given .1) (given .2) _ _ _ _ (loop .loop .inv .2) (loop .loop .inv .1) (read .before .loop-test .taken)
-          (entered .before .before .row .ensures .0) (entered .before .block .ensures .0) _ _ (read .get-wide .ensures) (entered .enter .ensures),
+      turn _ _ _ _ (loop .before .before .before .count .ensures .0) (given .1) (given .2) (given .3) (given .4) _ _ _ _ _ (loop .loop .inv .2) (loop .loop .inv .1)
+          (test .loop-test .taken) (row .row .ensures .0) (block .block .ensures .0) _ _ _ (read .get-wide .ensures) (added .add-to .ensures) (marked .set-bit .ensures),
     )
 
+put-requires : tie.Need-put-requires Inv-loop μ-loop
+put-requires c κs =
+    let loop = c .before .before in
+    loop .loop .inv .1 ∙ loop .before .before .before .before .before .before .pre .2
+
 same-length : tie.Need-same-length Inv-loop μ-loop
-same-length c = c .before .loop .inv .1
+same-length c =
+    let loop = c .before .before .before .before .before in
+    let same = loop .loop .inv .1 in
+    search (needs, same)
 
 returns : tie.Need-returns Inv-loop μ-loop
 returns c =
-    let loop = c .before in
-    let given = loop .before .before .before .before .pre in
-    let e : loop .loop .i ≡ loop .before .count .result = omega arith in
-    finish _ _ _ (loop .before .count .ensures .0) (given .1) (given .2) _ _ (loop .loop .inv .2) e
+    let put = c .before .before in
+    let loop = put .before .before .before in
+    let first = loop .before .before .before .before .before .before in
+    let given = first .pre in
+    let e : loop .loop .i ≡ loop .before .before .before .count .result = omega arith in
+    finish _ _ _ _ (loop .before .before .before .count .ensures .0) (given .1) (given .2) (given .3) (given .4) _ _ _ _ (loop .loop .inv .2) e (put .put .ensures)
 
 pub enter-all-spec : {M : Type 1} → statement M
 enter-all-spec =
@@ -87,17 +127,20 @@ enter-all-spec =
     Inv-loop
     μ-loop
     count-requires
+    get-requires
     loop-holds
+    row-requires
     mul-get-wide
     add-get-wide
     mul-get-wide-2
     add-get-wide-2
     get-wide-requires
-    row-requires
+    add-to-requires
     block-requires
-    enter-requires
+    set-bit-requires
     add-i
     loop-less
     loop-again
+    put-requires
     same-length
     returns)

@@ -7,16 +7,18 @@ use native.Mathlib.Omega.{arith}
 use denote.Ref.{now}
 use Rattle.algebra.specs.Test.{allBelow}
 use Rattle.algebra.proofs.Below.{below-none}
+use Rattle.series.specs.Names.{formulaOf}
+use Rattle.run.specs.Run.{limitsOf}
 use Rattle.sheet.proofs.Each.{every-entries}
 use Rattle.sheet.proofs.Admitting.{unset-at, mark-inside, one-marked, one-more}
 use Rattle.sheet.proofs.posting.none_marked.Statement.{statement}
 use Rattle.sheet.proofs.posting.none_marked.Tie as tie
 
 abbrev Inv-loop : tie.InvT-loop
-Inv-loop ledger s e i₀ i = (i ≤ e) × (allBelow i (unset-at ledger s) ≡ true)
+Inv-loop f ledger s e i₀ i = (i ≤ e) × (allBelow i (unset-at (limitsOf (formulaOf f)) ledger s) ≡ true)
 
 abbrev μ-loop : tie.MeasureT-loop
-μ-loop ledger s e i₀ i = e - i
+μ-loop f ledger s e i₀ i = e - i
 
 loop-holds : tie.Need-loop-holds Inv-loop μ-loop
 loop-holds c = (omega arith, below-none _)
@@ -31,12 +33,12 @@ bit-set-requires : tie.Need-bit-set-requires Inv-loop μ-loop
 bit-set-requires c κs =
     let turn = c .before .before in
     let start = turn .before .before .before .before in
-    mark-inside (now (start .args .ledger)) (now (start .args .s)) _ _ _ (c .before .row .ensures .0) (c .block .ensures .0) _ (start .pre .1) (turn .loop-test .taken)
+    mark-inside _ (now (start .args .ledger)) (now (start .args .s)) _ _ _ (c .before .row .ensures .0) (c .block .ensures .0) _ (start .pre .1) (start .pre .2) (turn .loop-test .taken)
 
 returns : tie.Need-returns Inv-loop μ-loop
 returns c =
     let read = c .before .before in
-    one-marked _ _ _ _ _ (read .before .row .ensures .0) (read .block .ensures .0) _ (c .before .bit-set .ensures) _
+    one-marked _ _ _ _ _ _ (read .before .row .ensures .0) (read .block .ensures .0) _ (c .before .bit-set .ensures) _
     (read .before .before .loop-test .taken) (c .if1 .taken)
 
 add-i : tie.Need-add-i Inv-loop μ-loop
@@ -49,7 +51,7 @@ loop-again : tie.Need-loop-again Inv-loop μ-loop
 loop-again c =
     let read = c .before .before in (
       omega arith,
-      one-more _ _ _ _ _ (read .before .row .ensures .0) (read .block .ensures .0) _ (c .before .bit-set .ensures) (c .if1 .left)
+      one-more _ _ _ _ _ _ (read .before .row .ensures .0) (read .block .ensures .0) _ (c .before .bit-set .ensures) (c .if1 .left)
           (read .before .before .before .loop .inv .1),
     )
 
