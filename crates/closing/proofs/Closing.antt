@@ -7,7 +7,7 @@ use Prim.Native.Nat.{ℕ, zero, suc, _+_, _-_, _/_, _%_, _^_, _<_, _≤_}
 use native.Mathlib.Omega.{arith}
 use borrow.Author.Tests.{eqb-true, eqb-false, not-false, eq-eqb, ne-eqb, ltb-true, ltb-false}
 use lib.Dec.{eqb, ltb}
-use lib.IntN.{ℤ, pos, subℕ}
+use lib.IntN.{ℤ, pos, negsuc, subℕ}
 use lib.ListN.{length, drop}
 use Rattle.algebra.specs.Test.{allBelow}
 use Rattle.algebra.specs.Whole.{quotient, sameℤ}
@@ -28,9 +28,9 @@ use Rattle.run.specs.Answers.{answerOf}
 use Rattle.run.specs.declared.Answer.{Answer}
 use Rattle.run.specs.declared.Answer.the-variants.{Finished, Refused}
 use Rattle.run.specs.declared.Refusal.{Refusal}
-use Rattle.run.proofs.Answering.{passes, changed, was-finished, was-refused}
-use Rattle.ledger.specs.Ledger.{ledgerSize, posIn, blocksIn, totalIn, bitIn, markIn, inOrder}
-use Rattle.closing.specs.Closing.{Ordered, lowOf, highOf, settledAt, digitsAt, closeRefusal, closeAnswer, closeBytes}
+use Rattle.run.proofs.Answering.{passes, refused, finished, changed, was-finished, was-refused}
+use Rattle.ledger.specs.Ledger.{viewOf, ledgerSize, posIn, blocksIn, totalIn, bitIn, markIn, inOrder}
+use Rattle.closing.specs.Closing.{Ordered, lowOf, highOf, settledAt, digitsAt, closeRefusal, closingAnswer, closingBytes, closeAnswer, closeBytes}
 use Rattle.closing.proofs.TopDigits.{negative-none, sub-pos, sub-exact}
 
 -- ---- what an ordered ledger says
@@ -47,7 +47,7 @@ ordered-blocks lim s e = order-range lim s e .C-high
 
 -- the bits of the run's tickets are their marks
 pub bits-are-marks : (lim : Limits) (s : List ℕ)
-    → allBelow (lim .rows) (λ row. allBelow (blocksIn s) (λ block. bitIn s row block))
+    → allBelow (lim .rows) (λ row. allBelow (blocksIn s) (λ block. bitIn lim s row block))
     ≡ allBelow (lim .rows) (λ row. allBelow (blocksIn s) (λ block. markIn lim s row block))
 unfolding markIn
 bits-are-marks lim s =
@@ -56,52 +56,63 @@ bits-are-marks lim s =
 -- ---- the refusals, in order
 
 module _ (F : Formula) (s out : List ℕ) where
-  pub ledger-size : (length s ≡ ledgerSize (limitsOf F) → ⊥) → closeRefusal F s out ≡ 1
-  unfolding closeRefusal refusal
-  ledger-size h = rw (ne-eqb (length s) (ledgerSize (limitsOf F)) h) refl
+  abbrev number : ℕ
+  number = closeRefusal F (viewOf (limitsOf F) s) (totalIn (limitsOf F) s) out
+
+  by-number : (n : ℕ) → number ≡ suc n → negsuc n ≡ closeAnswer F s out
+  unfolding closeAnswer closingAnswer
+  by-number n e = refused number n _ e
+
+  pub ledger-size : (length s ≡ ledgerSize (limitsOf F) → ⊥) → negsuc 0 ≡ closeAnswer F s out
+  unfolding closeRefusal refusal viewOf
+  ledger-size h = by-number 0 (rw (ne-eqb (length s) (ledgerSize (limitsOf F)) h) refl)
 
   module _ (sized : length s ≡ ledgerSize (limitsOf F)) where
-    pub digits-size : (length out ≡ 32 → ⊥) → closeRefusal F s out ≡ 1
-    unfolding closeRefusal refusal
-    digits-size h = rw (eq-eqb (length s) (ledgerSize (limitsOf F)) sized, ne-eqb (length out) 32 h) refl
+    pub digits-size : (length out ≡ 32 → ⊥) → negsuc 0 ≡ closeAnswer F s out
+    unfolding closeRefusal refusal viewOf
+    digits-size h = by-number 0 (rw (eq-eqb (length s) (ledgerSize (limitsOf F)) sized, ne-eqb (length out) 32 h) refl)
 
     module _ (room : length out ≡ 32) where
-      pub out-of-order : inOrder (limitsOf F) s ≡ false → closeRefusal F s out ≡ 5
-      unfolding closeRefusal refusal
-      out-of-order h = rw (eq-eqb (length s) (ledgerSize (limitsOf F)) sized, eq-eqb (length out) 32 room, h) refl
+      pub out-of-order : inOrder (limitsOf F) s ≡ false → negsuc 4 ≡ closeAnswer F s out
+      unfolding closeRefusal refusal viewOf
+      out-of-order h = by-number 4 (rw (eq-eqb (length s) (ledgerSize (limitsOf F)) sized, eq-eqb (length out) 32 room, h) refl)
 
       module _ (order : inOrder (limitsOf F) s ≡ true) where
         abbrev full : Bool
-        full = allBelow (rowCount F) (λ row. allBelow (blocksIn s) (λ block. bitIn s row block))
+        full = allBelow (rowCount F) (λ row. allBelow (blocksIn s) (λ block. bitIn (limitsOf F) s row block))
 
-        pub unmarked : full ≡ false → closeRefusal F s out ≡ 8
-        unfolding closeRefusal refusal
+        pub unmarked : full ≡ false → negsuc 7 ≡ closeAnswer F s out
+        unfolding closeRefusal refusal viewOf
         unmarked h =
-            rw (eq-eqb (length s) (ledgerSize (limitsOf F)) sized, eq-eqb (length out) 32 room, order, ← bits-are-marks (limitsOf F) s, h) refl
+            by-number 7
+            (rw (eq-eqb (length s) (ledgerSize (limitsOf F)) sized, eq-eqb (length out) 32 room, order, ← bits-are-marks (limitsOf F) s, h) refl)
 
-        pub unsettled : full ≡ true → settledAt F (posIn s) (totalIn s) ≡ 0 → closeRefusal F s out ≡ 9
-        unfolding closeRefusal refusal
+        pub unsettled : full ≡ true → settledAt F (posIn s) (totalIn (limitsOf F) s) ≡ 0 → negsuc 8 ≡ closeAnswer F s out
+        unfolding closeRefusal refusal viewOf
         unsettled h d =
-            rw (
+            by-number 8
+            (rw (
               eq-eqb (length s) (ledgerSize (limitsOf F)) sized,
               eq-eqb (length out) 32 room,
               order,
               ← bits-are-marks (limitsOf F) s,
               h,
               d,
-            ) refl
+            ) refl)
 
-        pub closes : full ≡ true → (settledAt F (posIn s) (totalIn s) ≡ 0 → ⊥) → closeRefusal F s out ≡ 0
-        unfolding closeRefusal refusal
+        pub closes : full ≡ true → (settledAt F (posIn s) (totalIn (limitsOf F) s) ≡ 0 → ⊥)
+            → pos (settledAt F (posIn s) (totalIn (limitsOf F) s)) ≡ closeAnswer F s out
+        unfolding closeAnswer closingAnswer closeRefusal refusal viewOf
         closes h d =
-            rw (
+            finished number _
+            (rw (
               eq-eqb (length s) (ledgerSize (limitsOf F)) sized,
               eq-eqb (length out) 32 room,
               order,
               ← bits-are-marks (limitsOf F) s,
               h,
-              ne-eqb (settledAt F (posIn s) (totalIn s)) 0 d,
-            ) refl
+              ne-eqb (settledAt F (posIn s) (totalIn (limitsOf F) s)) 0 d,
+            ) refl)
 
 -- ---- the lower end, where a digit is settled
 
@@ -144,37 +155,37 @@ pub blocks-read : (lim : Limits) (s : List ℕ) (c : ℕ) → inOrder lim s ≡ 
 unfolding blocksIn
 blocks-read lim s c o e = subst (λ (n : ℕ). n ≤ 256) (sym e) (ordered-blocks lim s o)
 
-pub full-read : (F : Formula) (s : List ℕ) (rows c : ℕ) (r : Bool) → rows ≡ rowCount F → c ≡ field s 8 2
-    → r ≡ allBelow rows (λ row. allBelow c (λ block. bitIn s row block))
-    → r ≡ allBelow (rowCount F) (λ row. allBelow (blocksIn s) (λ block. bitIn s row block))
+pub full-read : (F : Formula) (s : List ℕ) (c : ℕ) (r : Bool) → c ≡ field s 8 2
+    → r ≡ allBelow (rowCount F) (λ row. allBelow c (λ block. bitIn (limitsOf F) s row block))
+    → r ≡ allBelow (rowCount F) (λ row. allBelow (blocksIn s) (λ block. bitIn (limitsOf F) s row block))
 unfolding blocksIn
-full-read F s rows c r n b e = rw (n, b) at e
+full-read F s c r b e = rw b at e
 
 pub count-small : (f : Series) (p k : ℕ) → Position (formulaOf f) p → k ≡ termCount (formulaOf f) p → k ≤ 2 ^ 60
 unfolding termCount
 count-small Bellard p k h e = omega (arith, h, e)
 
 module _ (F : Formula) (s : List ℕ) (p k b T : ℕ) (p-is : p ≡ field s 0 8) (k-is : k ≡ termCount F p)
-    (b-is : b ≡ charges F minus p k) (T-is : T ≡ field s 16 16) where
-  pub settle-is : (a d : ℕ) → a ≡ charges F plus p k → d ≡ settled (subℕ T (b + 1)) (pos (T + a + 1)) → d ≡ settledAt F (posIn s) (totalIn s)
-  unfolding settledAt low high posIn totalIn
+    (b-is : b ≡ charges F minus p k) (T-is : T ≡ totalIn (limitsOf F) s) where
+  pub settle-is : (a d : ℕ) → a ≡ charges F plus p k → d ≡ settled (subℕ T (b + 1)) (pos (T + a + 1)) → d ≡ settledAt F (posIn s) (totalIn (limitsOf F) s)
+  unfolding settledAt low high posIn
   settle-is a d a-is e = rw (b-is, a-is, k-is, p-is, T-is) at e
 
-  pub lower-is : (r x : ℕ) → (settledAt F (posIn s) (totalIn s) ≡ 0 → ⊥) → T < 2 ^ 128 → r < 2 ^ 128 → x ≡ b + 1 → (r + x) % 2 ^ 128 ≡ T
-      → lowOf F (posIn s) (totalIn s) ≡ pos r
-  unfolding posIn totalIn
+  pub lower-is : (r x : ℕ) → (settledAt F (posIn s) (totalIn (limitsOf F) s) ≡ 0 → ⊥) → T < 2 ^ 128 → r < 2 ^ 128 → x ≡ b + 1 → (r + x) % 2 ^ 128 ≡ T
+      → lowOf F (posIn s) (totalIn (limitsOf F) s) ≡ pos r
+  unfolding posIn
   lower-is r x n t l x-is e =
-      low-is F (2 ^ 128) (field s 0 8) (field s 16 16) r n (subst (λ (m : ℕ). m < 2 ^ 128) T-is t) l (rw (x-is, b-is, k-is, p-is, T-is) at e)
+      low-is F (2 ^ 128) (field s 0 8) (totalIn (limitsOf F) s) r n (subst (λ (m : ℕ). m < 2 ^ 128) T-is t) l (rw (x-is, b-is, k-is, p-is, T-is) at e)
 
 -- ---- what has been tested where nothing is refused
 
 pub record Tested (F : Formula) (s out : List ℕ) : Type 0 where
   pub ordered : Ordered (limitsOf F) s
   pub room : length out ≡ 32
-  pub some : settledAt F (posIn s) (totalIn s) ≡ 0 → ⊥
+  pub some : settledAt F (posIn s) (totalIn (limitsOf F) s) ≡ 0 → ⊥
 
-pub tested : (F : Formula) (s out : List ℕ) → closeRefusal F s out ≡ 0 → Tested F s out
-unfolding closeRefusal
+pub tested : (F : Formula) (s out : List ℕ) → closeRefusal F (viewOf (limitsOf F) s) (totalIn (limitsOf F) s) out ≡ 0 → Tested F s out
+unfolding closeRefusal viewOf
 tested F s out e =
     let e₁ = passes 0 _ _ e in
     let e₅ = passes 4 _ _ (e₁ .1) in
@@ -184,25 +195,25 @@ tested F s out e =
     record {
       ordered = record { sized = eqb-true _ _ (not-false _ (sizes .0)); ordered = not-false _ (e₅ .0) };
       room = eqb-true _ _ (not-false _ (sizes .1));
-      some = eqb-false (settledAt F (posIn s) (totalIn s)) 0 (e₉ .0);
+      some = eqb-false (settledAt F (posIn s) (totalIn (limitsOf F) s)) 0 (e₉ .0);
     }
 
 pub was-closed : (F : Formula) (s out : List ℕ) (a : Answer) (d : ℕ) → answerOf a ≡ closeAnswer F s out → a ≡ Finished d
-    → (closeRefusal F s out ≡ 0) × (d ≡ settledAt F (posIn s) (totalIn s))
-unfolding closeAnswer
+    → (closeRefusal F (viewOf (limitsOf F) s) (totalIn (limitsOf F) s) out ≡ 0) × (d ≡ settledAt F (posIn s) (totalIn (limitsOf F) s))
+unfolding closeAnswer closingAnswer viewOf
 was-closed F s out a d e f = was-finished a d _ _ f e
 
 pub not-closed : (F : Formula) (s out : List ℕ) (a : Answer) (r : Refusal) → answerOf a ≡ closeAnswer F s out → a ≡ Refused r
     → out ≡ closeBytes F s out
-unfolding closeAnswer closeBytes
+unfolding closeAnswer closingAnswer closeBytes closingBytes
 not-closed F s out a r e f = was-refused a r _ _ _ out f e
 
 -- ---- what is written
 
-pub digits-written : (F : Formula) (s out : List ℕ) (d x : ℕ) → closeRefusal F s out ≡ 0 → d ≡ settledAt F (posIn s) (totalIn s)
-    → lowOf F (posIn s) (totalIn s) ≡ pos x → lowDigits d (pos (x / unitAt d)) ++ drop d out ≡ closeBytes F s out
-unfolding closeBytes digitsAt
+pub digits-written : (F : Formula) (s out : List ℕ) (d x : ℕ) → closeRefusal F (viewOf (limitsOf F) s) (totalIn (limitsOf F) s) out ≡ 0 → d ≡ settledAt F (posIn s) (totalIn (limitsOf F) s)
+    → lowOf F (posIn s) (totalIn (limitsOf F) s) ≡ pos x → lowDigits d (pos (x / unitAt d)) ++ drop d out ≡ closeBytes F s out
+unfolding closeBytes closingBytes digitsAt viewOf
 digits-written F s out d x z e l =
     ap (λ (w : ℤ). lowDigits d (quotient w (unitAt d)) ++ drop d out) (sym l)
-    ∙ ap (λ (k : ℕ). lowDigits k (quotient (lowOf F (posIn s) (totalIn s)) (unitAt k)) ++ drop k out) e
-    ∙ changed (closeRefusal F s out) _ out z
+    ∙ ap (λ (k : ℕ). lowDigits k (quotient (lowOf F (posIn s) (totalIn (limitsOf F) s)) (unitAt k)) ++ drop k out) e
+    ∙ changed (closeRefusal F (viewOf (limitsOf F) s) (totalIn (limitsOf F) s) out) _ out z

@@ -1,4 +1,5 @@
--- Closing a ledger: the refusals, the answer, and what the call leaves in the 32 bytes lent for the digits. Document 01, "Closing".
+-- Closing a ledger: the refusals, the answer, and what the call leaves in the 32 bytes lent for the digits. Document 01, "Closing";
+-- document 02, slip 1.
 use mathlib.Core.Path.{_≡_}
 use mathlib.Core.Bool.{true, not, cond, _||_}
 use mathlib.Core.List.{List, [], _∷_, _++_}
@@ -13,7 +14,7 @@ use Rattle.interval.specs.Interval.{low, high, unitAt}
 use Rattle.interval.specs.Digits.{settled, lowDigits}
 use Rattle.run.specs.Refusal.{Test, _⇐_, refusal, answer}
 use Rattle.run.specs.Run.{Limits, limitsOf}
-use Rattle.ledger.specs.Ledger.{posIn, blocksIn, totalIn, markIn, inOrder, ledgerSize}
+use Rattle.ledger.specs.Ledger.{View, viewOf, totalIn, inOrder, ledgerSize}
 
 -- low and high of a run at position p with a total
 abbrev pub lowOf : Formula → ℕ → ℕ → ℤ
@@ -30,22 +31,32 @@ settledAt F p total = settled (lowOf F p total) (highOf F p total)
 unfoldable pub digitsAt : Formula → ℕ → ℕ → ℕ → List ℕ
 digitsAt F p total d = lowDigits d (quotient (lowOf F p total) (unitAt d))
 
-abbrev pub closeTests : Formula → List ℕ → List ℕ → List Test
-closeTests F s digits =
-    (1 ⇐ not (eqb (length s) (ledgerSize (limitsOf F))) || not (eqb (length digits) 32)) ∷ (5 ⇐ not (inOrder (limitsOf F) s))
-    ∷ (8 ⇐ not (allBelow (rowCount F) (λ row. allBelow (blocksIn s) (λ block. markIn (limitsOf F) s row block))))
-    ∷ (9 ⇐ eqb (settledAt F (posIn s) (totalIn s)) 0) ∷ []
+-- ---- by what is seen of the ledger, and by its total
 
-unfoldable pub closeRefusal : Formula → List ℕ → List ℕ → ℕ
-closeRefusal F s digits = refusal (closeTests F s digits)
+abbrev pub closeTests : Formula → View → ℕ → List ℕ → List Test
+closeTests F v total digits =
+    (1 ⇐ not (v .sized) || not (eqb (length digits) 32)) ∷ (5 ⇐ not (v .ordered))
+    ∷ (8 ⇐ not (allBelow (rowCount F) (λ row. allBelow (v .C) (λ block. v .marked row block))))
+    ∷ (9 ⇐ eqb (settledAt F (v .p) total) 0) ∷ []
+
+unfoldable pub closeRefusal : Formula → View → ℕ → List ℕ → ℕ
+closeRefusal F v total digits = refusal (closeTests F v total digits)
+
+unfoldable pub closingAnswer : Formula → View → ℕ → List ℕ → ℤ
+closingAnswer F v total digits = answer (closeRefusal F v total digits) (settledAt F (v .p) total)
+
+unfoldable pub closingBytes : Formula → View → ℕ → List ℕ → List ℕ
+closingBytes F v total digits =
+    let d = settledAt F (v .p) total in
+    cond (eqb (closeRefusal F v total digits) 0) (digitsAt F (v .p) total d ++ drop d digits) digits
+
+-- ---- of a ledger's bytes: its total is that of its rows' sums
 
 unfoldable pub closeAnswer : Formula → List ℕ → List ℕ → ℤ
-closeAnswer F s digits = answer (closeRefusal F s digits) (settledAt F (posIn s) (totalIn s))
+closeAnswer F s digits = closingAnswer F (viewOf (limitsOf F) s) (totalIn (limitsOf F) s) digits
 
 unfoldable pub closeBytes : Formula → List ℕ → List ℕ → List ℕ
-closeBytes F s digits =
-    let d = settledAt F (posIn s) (totalIn s) in
-    cond (eqb (closeRefusal F s digits) 0) (digitsAt F (posIn s) (totalIn s) d ++ drop d digits) digits
+closeBytes F s digits = closingBytes F (viewOf (limitsOf F) s) (totalIn (limitsOf F) s) digits
 
 -- the ledger has its size and is in order: what closing has tested before it looks at the run
 pub record Ordered (lim : Limits) (s : List ℕ) : Type 0 where

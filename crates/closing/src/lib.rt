@@ -1,4 +1,4 @@
-// Closing a ledger: the digits that the interval around its total settles.
+// Closing a ledger: the digits that the interval around the total of its rows' sums settles.
 ghost use mathlib.Core.Path.{_≡_};
 ghost use mathlib.Core.List.{_++_};
 ghost use Prim.Native.Nat.{_+_, _*_, _/_, _%_, _^_, _<_, _≤_};
@@ -10,10 +10,10 @@ ghost use Prim.Native.Nat.{ℕ};
 ghost use Rattle.algebra.specs.Test.{allBelow};
 ghost use Rattle.words.specs.Words.{joined};
 ghost use Rattle.series.specs.Names.{formulaOf};
-ghost use Rattle.series.specs.Series.{plus, minus};
+ghost use Rattle.series.specs.Series.{rowCount, plus, minus};
 ghost use Rattle.run.specs.Run.{limitsOf};
 ghost use Rattle.run.specs.Answers.{answerOf};
-ghost use Rattle.ledger.specs.Ledger.{posIn, totalIn, bitIn};
+ghost use Rattle.ledger.specs.Ledger.{ledgerSize, posIn, totalIn, bitIn};
 ghost use Rattle.closing.specs.Closing.{Ordered, lowOf, settledAt, closeAnswer, closeBytes};
 ghost use Rattle.interval.specs.Interval as definition;
 ghost use Rattle.interval.specs.Interval.{unitAt};
@@ -119,13 +119,13 @@ pub fn charges(f: Series, added: bool, k: u64) -> u64
 }
 
 // Whether the first c blocks of a row are all marked.
-pub fn row_full(s: &[u8], row: usize, c: usize) -> bool
-    requires { ⌜ (64 + 32 * row ≤ length (now s)) × (c ≤ 256) ⌝ }
-    ensures { λ r. ⌜ r ≡ allBelow c (λ block. bitIn (now (s .entry)) row block) ⌝ }
+pub fn row_full(f: Series, s: &[u8], row: usize, c: usize) -> bool
+    requires { ⌜ (length (now s) ≡ ledgerSize (limitsOf (formulaOf f))) × (row < rowCount (formulaOf f)) × (c ≤ 256) ⌝ }
+    ensures { λ r. ⌜ r ≡ allBelow c (λ block. bitIn (limitsOf (formulaOf f)) (now (s .entry)) row block) ⌝ }
 {
     let mut block = 0;
     while block < c {
-        if !ledger::bit_set(s, row, block) {
+        if !ledger::bit_set(f, s, row, block) {
             return false;
         }
         block += 1;
@@ -134,13 +134,14 @@ pub fn row_full(s: &[u8], row: usize, c: usize) -> bool
 }
 
 // Whether the first c blocks of every row are marked.
-pub fn rows_full(s: &[u8], rows: usize, c: usize) -> bool
-    requires { ⌜ (32 + 32 * rows ≤ length (now s)) × (c ≤ 256) ⌝ }
-    ensures { λ r. ⌜ r ≡ allBelow rows (λ row. allBelow c (λ block. bitIn (now (s .entry)) row block)) ⌝ }
+pub fn rows_full(f: Series, s: &[u8], c: usize) -> bool
+    requires { ⌜ (length (now s) ≡ ledgerSize (limitsOf (formulaOf f))) × (c ≤ 256) ⌝ }
+    ensures { λ r. ⌜ r ≡ allBelow (rowCount (formulaOf f)) (λ row. allBelow c (λ block. bitIn (limitsOf (formulaOf f)) (now (s .entry)) row block)) ⌝ }
 {
+    let rows = series::limits::row_count(f);
     let mut row = 0;
     while row < rows {
-        if !row_full(s, row, c) {
+        if !row_full(f, s, row, c) {
             return false;
         }
         row += 1;
@@ -148,26 +149,33 @@ pub fn rows_full(s: &[u8], rows: usize, c: usize) -> bool
     true
 }
 
+// The total of a ledger: the sums of all its rows, added up.
+pub fn total(f: Series, ledger: &[u8]) -> Wide
+    requires { ⌜ Ordered (limitsOf (formulaOf f)) (now ledger) ⌝ }
+    ensures { λ r. ⌜ joined (r .hi) (r .lo) ≡ totalIn (limitsOf (formulaOf f)) (now (ledger .entry)) ⌝ }
+{
+    ledger::sums::total(ledger::sums::get(f, ledger))
+}
+
 // The number of digits that a ledger's total settles.
 pub fn settle(f: Series, ledger: &[u8]) -> u64
     requires { ⌜ Ordered (limitsOf (formulaOf f)) (now ledger) ⌝ }
-    ensures { λ r. ⌜ r ≡ settledAt (formulaOf f) (posIn (now (ledger .entry))) (totalIn (now (ledger .entry))) ⌝ }
+    ensures { λ r. ⌜ r ≡ settledAt (formulaOf f) (posIn (now (ledger .entry))) (totalIn (limitsOf (formulaOf f)) (now (ledger .entry))) ⌝ }
 {
     let k = series::terms::term_count(f, words::get(ledger, 0, 8));
     let a = charges(f, true, k);
     let b = charges(f, false, k);
-    settled_digits(words::get_wide(ledger, 16), a, b)
+    settled_digits(total(f, ledger), a, b)
 }
 
 // The lower end of the interval around a ledger's total, where a digit is settled, so that it is not below 0.
 pub fn lower_end(f: Series, ledger: &[u8]) -> Wide
-    requires { ⌜ Ordered (limitsOf (formulaOf f)) (now ledger) × (settledAt (formulaOf f) (posIn (now ledger)) (totalIn (now ledger)) ≡ 0 → ⊥) ⌝ }
-    ensures { λ r. ⌜ lowOf (formulaOf f) (posIn (now (ledger .entry))) (totalIn (now (ledger .entry))) ≡ pos (joined (r .hi) (r .lo)) ⌝ }
+    requires { ⌜ Ordered (limitsOf (formulaOf f)) (now ledger) × (settledAt (formulaOf f) (posIn (now ledger)) (totalIn (limitsOf (formulaOf f)) (now ledger)) ≡ 0 → ⊥) ⌝ }
+    ensures { λ r. ⌜ lowOf (formulaOf f) (posIn (now (ledger .entry))) (totalIn (limitsOf (formulaOf f)) (now (ledger .entry))) ≡ pos (joined (r .hi) (r .lo)) ⌝ }
 {
     let k = series::terms::term_count(f, words::get(ledger, 0, 8));
     let b = charges(f, false, k);
-    let total = words::get_wide(ledger, 16);
-    words::sub(total, Wide { hi: 0, lo: b + 1 })
+    words::sub(total(f, ledger), Wide { hi: 0, lo: b + 1 })
 }
 
 // What the refusal table says of a closing, its tests in the order of their numbers; or the number of digits.
@@ -184,7 +192,7 @@ pub fn test_closing(f: Series, ledger: &[u8], digits: &[u8]) -> Answer
         return Answer::Refused(Refusal::OutOfOrder);
     }
     let c = words::get(ledger, 8, 2);
-    if !rows_full(ledger, series::limits::row_count(f), c as usize) {
+    if !rows_full(f, ledger, c as usize) {
         return Answer::Refused(Refusal::Unmarked);
     }
     let d = settle(f, ledger);

@@ -4,6 +4,7 @@ use mathlib.Core.Path.{sym, ap, _∙_}
 use native.Mathlib.Omega.{arith}
 use denote.Ref.{now}
 use Rattle.series.specs.Names.{formulaOf}
+use Rattle.run.specs.Run.{limitsOf}
 use Rattle.run.specs.Answers.{answerOf}
 use Rattle.ledger.specs.Ledger.{posIn, totalIn}
 use Rattle.closing.proofs.Closing.{settled-few, tested, was-closed, not-closed, digits-written}
@@ -31,7 +32,7 @@ put-digits-requires c κs =
     let told = c .before .before .before in
     let a = told .before .before .before .before .before .before .args in
     let w = was-closed _ _ _ _ _ (told .before .before .test-closing .ensures) (told .d .given .1) in
-    let few = settled-few (formulaOf (a .f)) (posIn (now (a .ledger))) (totalIn (now (a .ledger))) in
+    let few = settled-few (formulaOf (a .f)) (posIn (now (a .ledger))) (totalIn (limitsOf (formulaOf (a .f))) (now (a .ledger))) in
     let room = tested _ _ _ (w .0) .room in
     (omega (arith, w .1, few), omega (arith, w .1, few, room))
 

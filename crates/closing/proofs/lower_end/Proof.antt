@@ -20,11 +20,11 @@ charges-requires c κs =
     let start = c .before .before .before in
     count-small (start .args .f) _ _ (position-read _ (now (start .args .ledger)) _ (start .pre .0) (c .before .get .ensures)) (c .term-count .ensures)
 
-get-wide-requires : tie.Need-get-wide-requires
-get-wide-requires c κs = search needs
+total-requires : tie.Need-total-requires
+total-requires c κs = search needs
 
-add-t6 : tie.Need-add-t6
-add-t6 c = search needs
+add-t5 : tie.Need-add-t5
+add-t5 c = search needs
 
 sub-requires : tie.Need-sub-requires
 sub-requires c κs = search needs
@@ -33,10 +33,10 @@ returns : tie.Need-returns
 returns c =
     let count = c .before .before .before in
     let start = count .before .before .before in
-    let h : (c .before .get-wide .result .hi < 2 ^ 64) × (c .before .get-wide .result .lo < 2 ^ 64) = search needs in
+    let h : (c .before .total .result .hi < 2 ^ 64) × (c .before .total .result .lo < 2 ^ 64) = search needs in
     let l : (c .sub .result .hi < 2 ^ 64) × (c .sub .result .lo < 2 ^ 64) = search needs in
     lower-is _ (now (start .args .ledger)) _ _ _ _ (count .before .get .ensures) (count .term-count .ensures)
-    (c .before .before .charges .ensures .0 _) (c .before .get-wide .ensures) _ _ (start .pre .1)
+    (c .before .before .charges .ensures .0 _) (c .before .total .ensures) _ _ (start .pre .1)
     (joined-lt _ _ (h .0) (h .1)) (joined-lt _ _ (l .0) (l .1))
     (low-word _) (c .sub .ensures)
 
@@ -47,7 +47,7 @@ lower-end-spec =
     get-requires
     term-count-requires
     charges-requires
-    get-wide-requires
-    add-t6
+    total-requires
+    add-t5
     sub-requires
     returns)

@@ -8,15 +8,17 @@ use borrow.Author.Needs.{needs}
 use borrow.Author.Tests.{not-true, not-false}
 use Rattle.algebra.specs.Test.{allBelow}
 use Rattle.algebra.proofs.Below.{below-none, below-next, below-false}
+use Rattle.series.specs.Names.{formulaOf}
+use Rattle.run.specs.Run.{limitsOf}
 use Rattle.ledger.specs.Ledger.{bitIn}
 use Rattle.closing.proofs.row_full.Statement.{statement}
 use Rattle.closing.proofs.row_full.Tie as tie
 
 abbrev Inv-loop : tie.InvT-loop
-Inv-loop s row c block₀ block = (block ≤ c) × (allBelow block (bitIn s row) ≡ true)
+Inv-loop f s row c block₀ block = (block ≤ c) × (allBelow block (bitIn (limitsOf (formulaOf f)) s row) ≡ true)
 
 abbrev μ-loop : tie.MeasureT-loop
-μ-loop s row c block₀ block = c - block
+μ-loop f s row c block₀ block = c - block
 
 loop-holds : tie.Need-loop-holds Inv-loop μ-loop
 loop-holds c = (omega arith, below-none _)

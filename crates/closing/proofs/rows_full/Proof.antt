@@ -8,15 +8,21 @@ use borrow.Author.Needs.{needs}
 use borrow.Author.Tests.{not-true, not-false}
 use Rattle.algebra.specs.Test.{allBelow}
 use Rattle.algebra.proofs.Below.{below-none, below-next, below-false}
+use Rattle.series.specs.Names.{formulaOf}
+use Rattle.series.specs.Series.{rowCount}
+use Rattle.run.specs.Run.{limitsOf}
 use Rattle.ledger.specs.Ledger.{bitIn}
 use Rattle.closing.proofs.rows_full.Statement.{statement}
 use Rattle.closing.proofs.rows_full.Tie as tie
 
 abbrev Inv-loop : tie.InvT-loop
-Inv-loop s rows c row₀ row = (row ≤ rows) × (allBelow row (λ r. allBelow c (bitIn s r)) ≡ true)
+Inv-loop f s c rows row₀ row = (row ≤ rows) × (allBelow row (λ r. allBelow c (bitIn (limitsOf (formulaOf f)) s r)) ≡ true)
 
 abbrev μ-loop : tie.MeasureT-loop
-μ-loop s rows c row₀ row = rows - row
+μ-loop f s c rows row₀ row = rows - row
+
+row-count-requires : tie.Need-row-count-requires Inv-loop μ-loop
+row-count-requires c κs = search needs
 
 loop-holds : tie.Need-loop-holds Inv-loop μ-loop
 loop-holds c = (omega arith, below-none _)
@@ -25,7 +31,10 @@ row-full-requires : tie.Need-row-full-requires Inv-loop μ-loop
 row-full-requires c κs = search needs
 
 returns : tie.Need-returns Inv-loop μ-loop
-returns c = sym (below-false _ _ _ (c .before .before .loop-test .taken) (sym (c .before .row-full .ensures) ∙ not-true _ (c .if1 .taken)))
+returns c =
+    let loop = c .before .before .before in
+    let counted = loop .before .row-count .ensures in
+    sym (below-false _ _ (loop .loop .row) (omega (arith, c .before .before .loop-test .taken, counted)) (sym (c .before .row-full .ensures) ∙ not-true _ (c .if1 .taken)))
 
 add-row : tie.Need-add-row Inv-loop μ-loop
 add-row c = omega arith
@@ -39,8 +48,10 @@ loop-again c =
 
 returns-2 : tie.Need-returns-2 Inv-loop μ-loop
 returns-2 c =
-    let e : c .before .loop .row ≡ c .before .before .before .args .rows = omega arith in
-    sym (rw e at (c .before .loop .inv .1))
+    let loop = c .before in
+    let counted = loop .before .row-count .ensures in
+    let e : loop .loop .row ≡ rowCount (formulaOf (loop .before .before .before .args .f)) = omega (arith, counted) in
+    sym (rw e at (loop .loop .inv .1))
 
 pub rows-full-spec : {M : Type 1} → statement M
 rows-full-spec =
@@ -48,6 +59,7 @@ rows-full-spec =
     (tie.spec
     Inv-loop
     μ-loop
+    row-count-requires
     loop-holds
     row-full-requires
     returns

@@ -22,8 +22,8 @@ charges-requires-2 c κs =
     let start = c .before .before .before .before in
     count-small (start .args .f) _ _ (position-read _ (now (start .args .ledger)) _ (start .pre) (c .before .before .get .ensures)) (c .before .term-count .ensures)
 
-get-wide-requires : tie.Need-get-wide-requires
-get-wide-requires c κs = search needs
+total-requires : tie.Need-total-requires
+total-requires c κs = search needs
 
 settled-digits-requires : tie.Need-settled-digits-requires
 settled-digits-requires c κs = search needs
@@ -32,7 +32,7 @@ returns : tie.Need-returns
 returns c =
     let count = c .before .before .before .before in
     settle-is _ (now (count .before .before .before .args .ledger)) _ _ _ _ (count .before .get .ensures) (count .term-count .ensures)
-    (c .before .before .charges2 .ensures .0 _) (c .before .get-wide .ensures) _ _ (c .before .before .before .charges .ensures .0 _)
+    (c .before .before .charges2 .ensures .0 _) (c .before .total .ensures) _ _ (c .before .before .before .charges .ensures .0 _)
     (c .settled-digits .ensures)
 
 pub settle-spec : {M : Type 1} → statement M
@@ -43,6 +43,6 @@ settle-spec =
     term-count-requires
     charges-requires
     charges-requires-2
-    get-wide-requires
+    total-requires
     settled-digits-requires
     returns)

@@ -5,10 +5,9 @@ use native.Mathlib.Omega.{arith}
 use borrow.Author.Tests.{not-true, not-false}
 use lib.IntN.{pos}
 use denote.Ref.{now}
-use Rattle.run.proofs.Answering.{refused, finished}
+use Rattle.run.specs.Run.{limitsOf}
 use Rattle.series.specs.Names.{formulaOf}
 use Rattle.ledger.specs.Ledger.{posIn, totalIn}
-use Rattle.closing.specs.Closing.{closeAnswer}
 use Rattle.closing.proofs.Closing.{blocks-read, full-read, settled-few, ledger-size, digits-size, out-of-order, unmarked, unsettled, closes}
 use borrow.Author.Needs.{needs}
 use Rattle.closing.proofs.test_closing.Statement.{statement}
@@ -18,50 +17,43 @@ ledger-size-requires : tie.Need-ledger-size-requires
 ledger-size-requires c κs = search needs
 
 returns : tie.Need-returns
-unfolding closeAnswer
-returns c = refused _ _ _ (ledger-size _ _ _ (λ e. c .if1 .taken (e ∙ sym (c .before .ledger-size .ensures))))
+returns c = ledger-size _ _ _ (λ e. c .if1 .taken (e ∙ sym (c .before .ledger-size .ensures)))
 
 returns-2 : tie.Need-returns-2
-unfolding closeAnswer
-returns-2 c = refused _ _ _ (digits-size _ _ _ (c .before .if1 .left ∙ c .before .before .ledger-size .ensures) (c .if2 .taken))
+returns-2 c = digits-size _ _ _ (c .before .if1 .left ∙ c .before .before .ledger-size .ensures) (c .if2 .taken)
 
 in-order-requires : tie.Need-in-order-requires
 in-order-requires c κs = search needs
 
 returns-3 : tie.Need-returns-3
-unfolding closeAnswer
 returns-3 c =
     let size = c .before .before in
-    refused _ _ _ (out-of-order _ _ _ (size .before .if1 .left ∙ size .before .before .ledger-size .ensures) (size .if2 .left)
-    (sym (c .before .in-order .ensures) ∙ not-true _ (c .if3 .taken)))
+    out-of-order _ _ _ (size .before .if1 .left ∙ size .before .before .ledger-size .ensures) (size .if2 .left)
+    (sym (c .before .in-order .ensures) ∙ not-true _ (c .if3 .taken))
 
 get-requires : tie.Need-get-requires
 get-requires c κs = search needs
 
-row-count-requires : tie.Need-row-count-requires
-row-count-requires c κs = search needs
-
 rows-full-requires : tie.Need-rows-full-requires
 rows-full-requires c κs =
-    let order = c .before .before in
+    let order = c .before in
     let size = order .before .before in
     let sized = size .before .if1 .left ∙ size .before .before .ledger-size .ensures in
     let start = size .before .before .before .before .before in
-    (omega (arith, sized, c .row-count .ensures), blocks-read _ (now (start .args .ledger)) _ (sym (order .before .in-order .ensures) ∙ not-false _ (order .if3 .left)) (c .before .get .ensures))
+    (sized, blocks-read _ (now (start .args .ledger)) _ (sym (order .before .in-order .ensures) ∙ not-false _ (order .if3 .left)) (c .get .ensures))
 
 returns-4 : tie.Need-returns-4
-unfolding closeAnswer
 returns-4 c =
     let full = c .before in
-    let order = full .before .before .before in
+    let order = full .before .before in
     let size = order .before .before in
-    refused _ _ _ (unmarked _ _ _ (size .before .if1 .left ∙ size .before .before .ledger-size .ensures) (size .if2 .left)
+    unmarked _ _ _ (size .before .if1 .left ∙ size .before .before .ledger-size .ensures) (size .if2 .left)
     (sym (order .before .in-order .ensures) ∙ not-false _ (order .if3 .left))
-    (sym (full-read (formulaOf (size .before .before .before .before .before .args .f)) _ _ _ _ (full .before .row-count .ensures) (full .before .before .get .ensures) (full .rows-full .ensures)) ∙ not-true _ (c .if4 .taken)))
+    (sym (full-read (formulaOf (size .before .before .before .before .before .args .f)) _ _ _ (full .before .get .ensures) (full .rows-full .ensures)) ∙ not-true _ (c .if4 .taken))
 
 settle-requires : tie.Need-settle-requires
 settle-requires c κs =
-    let order = c .before .before .before .before in
+    let order = c .before .before .before in
     let size = order .before .before in
     record {
       sized = size .before .if1 .left ∙ size .before .before .ledger-size .ensures;
@@ -69,36 +61,34 @@ settle-requires c κs =
     }
 
 returns-5 : tie.Need-returns-5
-unfolding closeAnswer
 returns-5 c =
     let marks = c .before .before in
     let full = marks .before in
-    let order = full .before .before .before in
+    let order = full .before .before in
     let size = order .before .before in
-    refused _ _ _ (unsettled _ _ _ (size .before .if1 .left ∙ size .before .before .ledger-size .ensures) (size .if2 .left)
+    unsettled _ _ _ (size .before .if1 .left ∙ size .before .before .ledger-size .ensures) (size .if2 .left)
     (sym (order .before .in-order .ensures) ∙ not-false _ (order .if3 .left))
-    (sym (full-read (formulaOf (size .before .before .before .before .before .args .f)) _ _ _ _ (full .before .row-count .ensures) (full .before .before .get .ensures) (full .rows-full .ensures)) ∙ not-false _ (marks .if4 .left))
-    (sym (c .before .settle .ensures) ∙ c .if5 .taken))
+    (sym (full-read (formulaOf (size .before .before .before .before .before .args .f)) _ _ _ (full .before .get .ensures) (full .rows-full .ensures)) ∙ not-false _ (marks .if4 .left))
+    (sym (c .before .settle .ensures) ∙ c .if5 .taken)
 
 cast-t15 : tie.Need-cast-t15
 cast-t15 c =
-    let size = c .before .before .before .before .before .before .before .before in
+    let size = c .before .before .before .before .before .before .before in
     let a = size .before .before .before .before .before .args in
-    let few = settled-few (formulaOf (a .f)) (posIn (now (a .ledger))) (totalIn (now (a .ledger))) in
+    let few = settled-few (formulaOf (a .f)) (posIn (now (a .ledger))) (totalIn (limitsOf (formulaOf (a .f))) (now (a .ledger))) in
     record { fits = omega (arith, few, c .before .settle .ensures) }
 
 returns-6 : tie.Need-returns-6
-unfolding closeAnswer
 returns-6 c =
     let marks = c .before .before in
     let full = marks .before in
-    let order = full .before .before .before in
+    let order = full .before .before in
     let size = order .before .before in
     ap pos (c .before .settle .ensures)
-    ∙ finished _ _ (closes _ _ _ (size .before .if1 .left ∙ size .before .before .ledger-size .ensures) (size .if2 .left)
+    ∙ closes _ _ _ (size .before .if1 .left ∙ size .before .before .ledger-size .ensures) (size .if2 .left)
     (sym (order .before .in-order .ensures) ∙ not-false _ (order .if3 .left))
-    (sym (full-read (formulaOf (size .before .before .before .before .before .args .f)) _ _ _ _ (full .before .row-count .ensures) (full .before .before .get .ensures) (full .rows-full .ensures)) ∙ not-false _ (marks .if4 .left))
-    (λ z. c .if5 .left (c .before .settle .ensures ∙ z)))
+    (sym (full-read (formulaOf (size .before .before .before .before .before .args .f)) _ _ _ (full .before .get .ensures) (full .rows-full .ensures)) ∙ not-false _ (marks .if4 .left))
+    (λ z. c .if5 .left (c .before .settle .ensures ∙ z))
 
 pub test-closing-spec : {M : Type 1} → statement M
 test-closing-spec =
@@ -110,7 +100,6 @@ test-closing-spec =
     in-order-requires
     returns-3
     get-requires
-    row-count-requires
     rows-full-requires
     returns-4
     settle-requires
