@@ -2,12 +2,13 @@
 -- Assumes nothing.
 use mathlib.Core.Path.{_≡_, refl, sym, ap, ap₂, subst, _∙_}
 use mathlib.Core.Logic.{_≢_, ⊎-elim}
-use Prim.Native.Nat.{ℕ, zero, suc, _+_, _*_, _≤_, _<_}
+use Prim.Native.Nat.{ℕ, zero, suc, _+_, _*_, _%_, _≤_, _<_}
 use native.Mathlib.Nat.{add-zero, add-suc, add-assoc, zero-add, le-refl, mul-zero, not-suc-le-zero}
 use native.Mathlib.Numerals.{add-one}
 use native.Mathlib.Omega.{arith}
 use Rattle.algebra.specs.Sum.{sum}
 use Rattle.algebra.proofs.Booleans.{below-or}
+use Rattle.algebra.proofs.Cong.{Mod, rem, plus, of-eq, symm, trans, wrapped, to-%}
 
 pub sum-le : (f g : ℕ → ℕ) (first count : ℕ) → ((k : ℕ) → first ≤ k → k < first + count → f k ≤ g k)
     → sum f first count ≤ sum g first count
@@ -74,3 +75,27 @@ sum-shift g h zero e = refl
 sum-shift g h (suc c) e =
     let q : 1 + c ≡ suc c = omega arith in
     ap₂ _+_ (sum-shift g h c e) (ap g q ∙ e c ∙ ap h (sym (zero-add c)))
+
+-- remainders added up
+pub sum-rem : (n : ℕ) (f : ℕ → ℕ) (first count : ℕ) → sum (λ k. f k % n) first count % n ≡ sum f first count % n
+unfolding sum
+sum-rem n f first count = to-% (go count)
+  where
+    go : (c : ℕ) → Mod n (sum (λ k. f k % n) first c) (sum f first c)
+    go zero = of-eq refl
+    go (suc c) = plus (go c) (rem n (f (first + c)))
+
+-- one summand grows by x and is reduced: so does the sum
+pub sum-bump-rem : (n : ℕ) (g g′ : ℕ → ℕ) (count j x : ℕ) → j < count → g′ j ≡ (g j + x) % n → ((i : ℕ) → i ≢ j → g i ≡ g′ i)
+    → sum g′ 0 count % n ≡ (sum g 0 count % n + x) % n
+unfolding sum
+sum-bump-rem n g g′ count j x h e o = to-% (trans (go count h) (symm (plus (rem n (sum g 0 count)) (of-eq {a = x} refl))))
+  where
+    go : (c : ℕ) → j < c → Mod n (sum g′ 0 c) (sum g 0 c + x)
+    go zero l = absurd (not-suc-le-zero l)
+    go (suc c) l = ⊎-elim
+        (λ k. trans (plus (go c k) (of-eq (sym (o (0 + c) (λ q. omega (arith, q)))))) (of-eq (omega arith)))
+        (λ d. let a = sum-ext g g′ 0 c (λ i m u. o i (λ q. omega (arith, q))) in
+        let b = subst (λ (i : ℕ). g′ i ≡ (g i + x) % n) (d ∙ sym (zero-add c)) e in
+        trans (plus (of-eq (sym a)) (wrapped n b)) (of-eq (omega arith)))
+        (below-or j c l)

@@ -1,2 +1,3 @@
 pub mod TopDigits
 pub mod Closing
+pub mod Encoded

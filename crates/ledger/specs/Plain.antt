@@ -6,7 +6,7 @@ use Prim.Native.Nat.{ℕ, zero, suc, _+_, _*_, _%_, _^_}
 use lib.Dec.{eqb}
 use Rattle.words.specs.Bytes.{bytesOf}
 use Rattle.series.specs.Series.{modulus}
-use Rattle.run.specs.Run.{Limits}
+use Rattle.run.specs.Run.{Limits, isTicket}
 use Rattle.ledger.specs.Ledger.{View, head, posIn, blocksIn, rowSumIn, markIn}
 
 -- A ticket of a run, with the sum that is offered for it.
@@ -75,5 +75,8 @@ unfoldable pub decode : Limits → List ℕ → Plain
 decode lim s = record { p = posIn s; C = blocksIn s; tickets = markIn lim s; sums = rowSumIn s }
 
 -- the ledger of the run p = 1, C = 1, every ticket marked, with these sums: document 01's marked closings are of these
+abbrev pub fullPlain : Limits → (ℕ → ℕ) → Plain
+fullPlain lim sums = record { p = 1; C = 1; tickets = isTicket lim 1; sums = sums }
+
 unfoldable pub fullLedger : Limits → (ℕ → ℕ) → List ℕ
-fullLedger lim sums = encode lim (record { p = 1; C = 1; tickets = λ row block. eqb block 0; sums = sums })
+fullLedger lim sums = encode lim (fullPlain lim sums)

@@ -1,54 +1,58 @@
--- A run whose tickets all occur with their sums: all are marked at the end, and the total is the sum of all tickets.
--- The total of a plain ledger is the sum of the tickets in its set, as long as each carries its right sum.
+-- A run whose tickets all occur with their sums: all are marked at the end, and each row's sum is that of the row's tickets.
+-- A row's sum in a plain ledger is that of the row's tickets in its set, as long as each carries its right sum.
 -- Assumes nothing.
 use mathlib.Core.Path.{_≡_, refl, sym, ap, ap₂, _∙_, subst}
 use mathlib.Core.Bool.{Bool, true, false, cond, _&&_, _||_}
-use mathlib.Core.Logic.{_⊎_, inl, inr, ⊎-elim}
+use mathlib.Core.Logic.{_≢_, _⊎_, inl, inr, ⊎-elim}
 use mathlib.Core.List.{List, [], _∷_, _++_, foldl, List·Memᴰ, List·Memᴰ·head, List·Memᴰ·tail, Memᴰ·append-left, Memᴰ·append-right}
 use Prim.Native.Nat.{ℕ, _+_, _%_, _^_, _<_}
 use native.Mathlib.Nat.{mod-add-mod}
 use native.Mathlib.Omega.{arith}
-use borrow.Author.Tests.{eqb-true, eq-eqb}
+use borrow.Author.Tests.{eqb-true, eqb-false, eq-eqb}
 use lib.Dec.{eqb}
 use lib.ListN.{length}
 use Rattle.algebra.specs.Sum.{sum}
-use Rattle.algebra.proofs.Sums.{sum-ext, sum-zero, sum-bump}
+use Rattle.algebra.proofs.Sums.{sum-ext, sum-zero, sum-bump, sum-rem}
 use Rattle.series.specs.Series.{Formula, rowCount, modulus}
 use Rattle.run.specs.Run.{limitsOf, inRange, isTicket, ticketSum}
-use Rattle.run.proofs.Range.{ticket-row, ticket-block, is-ticket}
-use Rattle.ledger.specs.Plain.{Plain, Entry, plainView, admit, including, isOf, opened}
+use Rattle.run.proofs.Range.{ticket-block, is-ticket}
+use Rattle.ledger.specs.Ledger.{totalOf}
+use Rattle.ledger.specs.Plain.{Plain, Entry, plainView, admit, including, adding, isOf, opened}
 use Rattle.ledger.proofs.Posting.{ticket-taken}
+use Rattle.ledger.proofs.RowSums.{adding-here, adding-else}
 use Rattle.ledger.proofs.Image.{Good, including-here, including-else}
 use Rattle.sheet.specs.Sheet.{entries}
 use Rattle.sheet.specs.Posts.{Post, ticket, sheet, postRefusal, postEntries, plainPost, plainPosts, occurring, occurrences, contains}
 use Rattle.sheet.proofs.Simulation.{Ready, good-admit, good-opened, post-ready, step}
 use Rattle.sheet.proofs.Singles.{not-refused}
-use Rattle.settlement.specs.Settlement.{Filled, allSums}
+use Rattle.settlement.specs.Settlement.{Filled, rowSums, allSums, finalSums, finalTotal}
 
 module _ (F : Formula) (p C : ℕ) where
   -- the sums of the tickets that are in a set
   abbrev markedIn : (ℕ → ℕ → Bool) → ℕ → ℕ → ℕ
   markedIn set row block = cond (set row block) (ticketSum F p C row block) 0
 
-  pub markedSum : (ℕ → ℕ → Bool) → ℕ
-  markedSum set = sum (λ row. sum (markedIn set row) 0 C) 0 (rowCount F)
+  pub markedSum : (ℕ → ℕ → Bool) → ℕ → ℕ
+  markedSum set row = sum (markedIn set row) 0 C
 
-  marked-admit : (t : Entry) (set : ℕ → ℕ → Bool) → isTicket (limitsOf F) C (t .row) (t .block) ≡ true → set (t .row) (t .block) ≡ false
-      → markedSum (including t set) ≡ markedSum set + ticketSum F p C (t .row) (t .block)
+  marked-here : (t : Entry) (set : ℕ → ℕ → Bool) → isTicket (limitsOf F) C (t .row) (t .block) ≡ true → set (t .row) (t .block) ≡ false
+      → markedSum (including t set) (t .row) ≡ markedSum set (t .row) + ticketSum F p C (t .row) (t .block)
   unfolding markedSum
-  marked-admit t set h new =
-      sum-bump (λ row. sum (markedIn set row) 0 C) (λ row. sum (markedIn (including t set) row) 0 C) (rowCount F) (t .row) (ticketSum F p C (t .row) (t .block))
-      (ticket-row (limitsOf F) C (t .row) (t .block) h)
-      (sum-bump (markedIn set (t .row)) (markedIn (including t set) (t .row)) C (t .block) (ticketSum F p C (t .row) (t .block)) (ticket-block (limitsOf F) C (t .row) (t .block) h)
+  marked-here t set h new =
+      sum-bump (markedIn set (t .row)) (markedIn (including t set) (t .row)) C (t .block) (ticketSum F p C (t .row) (t .block)) (ticket-block (limitsOf F) C (t .row) (t .block) h)
       (rw (including-here t set, new) (omega arith))
-      (λ i ne. ap (λ (b : Bool). cond b (ticketSum F p C (t .row) i) 0) (including-else t set (t .row) i (λ q. ne (q .1)))))
-      (λ r ne. sum-ext _ _ 0 C (λ i l u. ap (λ (b : Bool). cond b (ticketSum F p C r i) 0) (including-else t set r i (λ q. ne (q .0)))))
+      (λ i ne. ap (λ (b : Bool). cond b (ticketSum F p C (t .row) i) 0) (including-else t set (t .row) i (λ q. ne (q .1))))
+
+  marked-else : (t : Entry) (set : ℕ → ℕ → Bool) (row : ℕ) → t .row ≢ row → markedSum (including t set) row ≡ markedSum set row
+  unfolding markedSum
+  marked-else t set row ne =
+      sym (sum-ext _ _ 0 C (λ i l u. ap (λ (b : Bool). cond b (ticketSum F p C row i) 0) (including-else t set row i (λ q. ne (sym (q .0))))))
 
   pub record Kept (s : Plain) : Type 0 where
     pub run-p : s .p ≡ p
     pub run-C : s .C ≡ C
     pub good : Good (limitsOf F) s
-    pub total-is : s .total ≡ markedSum (s .tickets) % modulus
+    pub sums-are : (row : ℕ) → s .sums row ≡ markedSum (s .tickets) row % modulus
 
   -- each ticket of the list carries its sum
   abbrev Right : List Entry → Type 0
@@ -57,17 +61,26 @@ module _ (F : Formula) (p C : ℕ) where
   kept-admit : (s : Plain) (t : Entry) → Kept s → isTicket (limitsOf F) (s .C) (t .row) (t .block) ≡ true → s .tickets (t .row) (t .block) ≡ false
       → t .sum ≡ ticketSum F p C (t .row) (t .block) → Kept (admit s t)
   unfolding admit
-  kept-admit s t k h new right =
-      let h′ = subst (λ (n : ℕ). isTicket (limitsOf F) n (t .row) (t .block) ≡ true) (k .run-C) h in
-      record {
-        run-p = k .run-p;
-        run-C = k .run-C;
-        good = good-admit (limitsOf F) s t (k .good) h;
-        total-is =
-            ap₂ (λ (x y : ℕ). (x + y) % modulus) (k .total-is) right
-            ∙ mod-add-mod (markedSum (s .tickets)) modulus (ticketSum F p C (t .row) (t .block))
-            ∙ ap (λ (x : ℕ). x % modulus) (sym (marked-admit t (s .tickets) h′ new));
-      }
+  kept-admit s t k h new right = record {
+    run-p = k .run-p;
+    run-C = k .run-C;
+    good = good-admit (limitsOf F) s t (k .good) h;
+    sums-are = λ row. go row (eqb (t .row) row) refl;
+  }
+    where
+      h′ : isTicket (limitsOf F) C (t .row) (t .block) ≡ true
+      h′ = subst (λ (n : ℕ). isTicket (limitsOf F) n (t .row) (t .block) ≡ true) (k .run-C) h
+
+      go : (row : ℕ) (b : Bool) → eqb (t .row) row ≡ b → adding (t .row) (t .sum) (s .sums) row ≡ markedSum (including t (s .tickets)) row % modulus
+      go row true e =
+          subst (λ (r : ℕ). adding (t .row) (t .sum) (s .sums) r ≡ markedSum (including t (s .tickets)) r % modulus) (eqb-true (t .row) row e)
+          (adding-here (t .row) (t .sum) (s .sums)
+          ∙ ap₂ (λ (x y : ℕ). (x + y) % modulus) (k .sums-are (t .row)) right
+          ∙ mod-add-mod (markedSum (s .tickets) (t .row)) modulus (ticketSum F p C (t .row) (t .block))
+          ∙ ap (λ (x : ℕ). x % modulus) (sym (marked-here t (s .tickets) h′ new)))
+      go row false e =
+          let ne = eqb-false (t .row) row e in
+          adding-else (t .row) (t .sum) (s .sums) row ne ∙ k .sums-are row ∙ ap (λ (x : ℕ). x % modulus) (sym (marked-else t (s .tickets) row ne))
 
   kept-all : (s : Plain) (ts : List Entry) → Kept s → Ready (limitsOf F) s ts → Right ts → Kept (foldl admit s ts)
   kept-all s [] k r right = k
@@ -234,7 +247,7 @@ module _ (F : Formula) (p C : ℕ) where
     run-p = refl;
     run-C = refl;
     good = good-opened (limitsOf F) p C fits e;
-    total-is = ap (λ (n : ℕ). n % modulus) (sym (sum-zero _ 0 (rowCount F) (λ row. sum-zero _ 0 C (λ block. refl))));
+    sums-are = λ row. ap (λ (n : ℕ). n % modulus) (sym (sum-zero _ 0 C (λ block. refl)));
   }
 
   pub filled-all : F .last < 2 ^ 64 → inRange (limitsOf F) p C ≡ true → (posts : List Post) → Filled F p C posts → (row block : ℕ) → isTicket (limitsOf F) C row block ≡ true
@@ -242,11 +255,16 @@ module _ (F : Formula) (p C : ℕ) where
   unfolding opened
   filled-all fits e posts f row block h = marked-posts (opened p C) posts row block (good-opened (limitsOf F) p C fits e) h (inr (f .occurs row block h))
 
-  pub filled-total : F .last < 2 ^ 64 → inRange (limitsOf F) p C ≡ true → (posts : List Post) → Filled F p C posts → plainPosts (limitsOf F) (opened p C) posts .total ≡ allSums F p C
-  unfolding allSums markedSum
-  filled-total fits e posts f =
-      let k = kept-posts (opened p C) posts (kept-opened fits e) (f .right) in
-      k .total-is
+  pub filled-rows : F .last < 2 ^ 64 → inRange (limitsOf F) p C ≡ true → (posts : List Post) → Filled F p C posts → (row : ℕ) → row < rowCount F
+      → finalSums F p C posts row ≡ rowSums F p C row
+  unfolding rowSums markedSum
+  filled-rows fits e posts f row h =
+      kept-posts (opened p C) posts (kept-opened fits e) (f .right) .sums-are row
       ∙ ap (λ (n : ℕ). n % modulus)
-      (sum-ext _ _ 0 (rowCount F) (λ row h l. sum-ext _ _ 0 C (λ block i u. ap (λ (b : Bool). cond b (ticketSum F p C row block) 0)
-      (filled-all fits e posts f row block (is-ticket (limitsOf F) C row block (omega arith) (omega arith))))))
+      (sum-ext _ _ 0 C (λ block i u. ap (λ (b : Bool). cond b (ticketSum F p C row block) 0) (filled-all fits e posts f row block (is-ticket (limitsOf F) C row block h (omega arith)))))
+
+  pub filled-total : F .last < 2 ^ 64 → inRange (limitsOf F) p C ≡ true → (posts : List Post) → Filled F p C posts → finalTotal F p C posts ≡ allSums F p C
+  unfolding allSums rowSums totalOf
+  filled-total fits e posts f =
+      ap (λ (n : ℕ). n % modulus) (sum-ext (finalSums F p C posts) (rowSums F p C) 0 (rowCount F) (λ row l h. filled-rows fits e posts f row (omega arith)))
+      ∙ sum-rem modulus (λ row. sum (λ block. ticketSum F p C row block) 0 C) 0 (rowCount F)

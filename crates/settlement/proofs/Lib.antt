@@ -2,6 +2,7 @@ pub mod Partition
 pub mod Filling
 pub mod Filler
 pub mod Theorem
+pub mod OneTotal
 pub mod Figures
 pub mod FirstDigits
 pub mod Agreement

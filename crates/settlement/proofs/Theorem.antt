@@ -22,15 +22,16 @@ use Rattle.interval.proofs.Bellard.{positive, bellard-rest}
 use Rattle.run.specs.Refusal.{refusal, answer}
 use Rattle.run.specs.Run.{limitsOf, inRange}
 use Rattle.run.proofs.Range.{range-of, is-ticket}
-use Rattle.ledger.specs.Ledger.{fresh, ledgerSize, posIn, totalIn, markIn}
-use Rattle.ledger.specs.Plain.{Plain, opened, encode}
+use Rattle.ledger.specs.Ledger.{fresh, ledgerSize, totalOf}
+use Rattle.ledger.specs.Plain.{Plain, opened, plainView, encode}
 use Rattle.ledger.specs.Calls.{openAnswer, openBytes, openRefusal}
-use Rattle.ledger.proofs.Image.{Good, pos-encode, blocks-encode, total-encode, order-encode, length-encode, mark-encode}
+use Rattle.ledger.proofs.Image.{Good}
 use Rattle.sheet.specs.Posts.{Post, postsBytes, plainPosts}
 use Rattle.sheet.proofs.Simulation.{good-opened, posts-good, ledger-is, answers-are}
-use Rattle.closing.specs.Closing.{lowOf, highOf, settledAt, digitsAt, closeRefusal, closeAnswer, closeBytes}
+use Rattle.closing.specs.Closing.{lowOf, highOf, settledAt, digitsAt, closeRefusal, closingAnswer, closingBytes, closeAnswer, closeBytes}
+use Rattle.closing.proofs.Encoded.{answer-encoded, bytes-encoded}
 use Rattle.settlement.specs.Settlement.{allSums, Closed, Settled, Demand3}
-use Rattle.settlement.proofs.Filling.{filled-all, filled-total, kept-posts, kept-opened}
+use Rattle.settlement.proofs.Filling.{filled-all, filled-rows, filled-total, kept-posts, kept-opened}
 use Rattle.settlement.proofs.Partition.{all-tickets}
 
 module _ (F : Formula) (fits : F .last < 2 ^ 64) (above : Positive F) (rest : (p : ℕ) → RestBelowUnit F p (termCount F p))
@@ -60,37 +61,27 @@ module _ (F : Formula) (fits : F .last < 2 ^ 64) (above : Positive F) (rest : (p
       (λ s. sym (shared-digits F p (termCount F p) above (rest p) d s D L dp h whole)) s
 
   -- what a closing of a filled ledger answers and writes, by the number of digits settled
-  module _ (s : Plain) (good : Good (limitsOf F) s) (run-p : s .p ≡ p) (total-is : s .total ≡ allSums F p C)
-      (full : (row block : ℕ) → row < rowCount F → block < s .C → markIn (limitsOf F) (encode (limitsOf F) s) row block ≡ true)
-      (out : List ℕ) (room : length out ≡ 32) where
+  module _ (s : Plain) (good : Good (limitsOf F) s) (run-p : s .p ≡ p) (total-is : totalOf (limitsOf F) (s .sums) ≡ allSums F p C)
+      (full : (row block : ℕ) → row < rowCount F → block < s .C → s .tickets row block ≡ true) (out : List ℕ) (room : length out ≡ 32) where
     bytes : List ℕ
     bytes = encode (limitsOf F) s
 
-    settled-is : settledAt F (posIn bytes) (totalIn bytes) ≡ settled lo hi
-    unfolding bytes settledAt lo hi
-    settled-is = rw (pos-encode (limitsOf F) s good, total-encode (limitsOf F) s good, run-p, total-is) refl
+    settled-is : settledAt F (s .p) (totalOf (limitsOf F) (s .sums)) ≡ settled lo hi
+    unfolding settledAt lo hi
+    settled-is = rw (run-p, total-is) refl
 
-    refusal-is : closeRefusal F bytes out ≡ cond (eqb (settled lo hi) 0) 9 0
-    unfolding closeRefusal refusal bytes
-    refusal-is =
-        rw (
-          eq-eqb (length (encode (limitsOf F) s)) (ledgerSize (limitsOf F)) (length-encode (limitsOf F) s good),
-          room,
-          order-encode (limitsOf F) s good,
-          blocks-encode (limitsOf F) s good,
-          all-true (rowCount F) _ (λ row h. all-true (s .C) _ (λ block l. full row block h l)),
-          settled-is,
-        ) refl
+    refusal-is : closeRefusal F (plainView s) (totalOf (limitsOf F) (s .sums)) out ≡ cond (eqb (settled lo hi) 0) 9 0
+    unfolding closeRefusal refusal plainView
+    refusal-is = rw (room, all-true (rowCount F) _ (λ row h. all-true (s .C) _ (λ block l. full row block h l)), settled-is) refl
 
     answer-is : closeAnswer F bytes out ≡ answer (cond (eqb (settled lo hi) 0) 9 0) (settled lo hi)
-    unfolding closeAnswer
-    answer-is = rw (refusal-is, settled-is) refl
+    unfolding closingAnswer plainView bytes
+    answer-is = answer-encoded F s good out ∙ rw (refusal-is, settled-is) refl
 
     bytes-are : closeBytes F bytes out
         ≡ cond (eqb (cond (eqb (settled lo hi) 0) 9 0) 0) (lowDigits (settled lo hi) (quotient lo (unitAt (settled lo hi))) ++ drop (settled lo hi) out) out
-    unfolding closeBytes digitsAt bytes lo
-    bytes-are =
-        rw (refusal-is, settled-is, pos-encode (limitsOf F) s good, total-encode (limitsOf F) s good, run-p, total-is) refl
+    unfolding closingBytes digitsAt plainView bytes lo
+    bytes-are = bytes-encoded F s good out ∙ rw (refusal-is, settled-is, run-p, total-is) refl
 
     closed : Closed F p lo hi bytes out
     unfolding answer Settles
@@ -138,6 +129,7 @@ module _ (F : Formula) (fits : F .last < 2 ^ 64) (above : Positive F) (rest : (p
         opens = λ s h. opens-fresh s h;
         answers = answers-are lim p C fits range posts;
         ledger = final;
+        rows = filled-rows F p C fits range posts;
         total = filled-total F p C fits range posts;
         near = λ f. subst (λ (t : ℕ). (D L : ℕ) → 0 < D → termCount F p ≤ L → MakesWhole F p L D
             → LiesFrom D (lowOf F p t) (highOf F p t) (exactSum F p D L))
@@ -148,8 +140,7 @@ module _ (F : Formula) (fits : F .last < 2 ^ 64) (above : Positive F) (rest : (p
             (sym (filled-total F p C fits range posts f))
             (subst (λ (l : List ℕ). Closed F p lo hi l out) (sym final)
             (closed s g (k .run-p) (filled-total F p C fits range posts f)
-            (λ row block h l. mark-encode lim s g row block
-            ∙ filled-all F p C fits range posts f row block (is-ticket lim C row block h (subst (λ (n : ℕ). block < n) (k .run-C) l)))
+            (λ row block h l. filled-all F p C fits range posts f row block (is-ticket lim C row block h (subst (λ (n : ℕ). block < n) (k .run-C) l)))
             out room));
       }
 

@@ -9,7 +9,7 @@ use Rattle.series.specs.Series.{Formula, rowCount}
 use Rattle.run.specs.Refusal.{Test, ascend, Applies, Smallest}
 use Rattle.run.specs.Run.{limitsOf}
 use Rattle.ticket.specs.Work.{workTests, workRefusal}
-use Rattle.ledger.specs.Ledger.{viewOf}
+use Rattle.ledger.specs.Ledger.{viewOf, totalIn}
 use Rattle.ledger.specs.Calls.{openTests, openRefusal, ticketTests, ticketRefusal}
 use Rattle.sheet.specs.Sheet.{sheetBlocks, sheetCount}
 use Rattle.sheet.specs.Calls.{writeTests, writeRefusal, readTests, readRefusal, sheetTests, sheetRefusal}
@@ -48,7 +48,8 @@ tables F a =
     ∷ table (writeTests F (a .p) (a .C) (a .list) (a .sheet)) (writeRefusal F (a .p) (a .C) (a .list) (a .sheet))
     ∷ table (readTests (limitsOf F) (a .sheet) (a .list) (a .sums)) (readRefusal (limitsOf F) (a .sheet) (a .list) (a .sums))
     ∷ table (sheetTests (limitsOf F) (viewOf (limitsOf F) (a .ledger)) (a .sheet)) (sheetRefusal (limitsOf F) (viewOf (limitsOf F) (a .ledger)) (a .sheet))
-    ∷ table (closeTests F (a .ledger) (a .digits)) (closeRefusal F (a .ledger) (a .digits)) ∷ []
+    ∷ table (closeTests F (viewOf (limitsOf F) (a .ledger)) (totalIn (limitsOf F) (a .ledger)) (a .digits))
+    (closeRefusal F (viewOf (limitsOf F) (a .ledger)) (totalIn (limitsOf F) (a .ledger)) (a .digits)) ∷ []
 
 -- the numbers of every table ascend
 unfoldable pub allAscend : List Table → Bool

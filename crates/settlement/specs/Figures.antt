@@ -2,12 +2,13 @@
 use mathlib.Core.Bool.{Bool, true, false}
 use mathlib.Core.Path.{_≡_}
 use mathlib.Core.List.{List, [], _∷_, _++_}
-use Prim.Native.Nat.{ℕ, _-_, _+_, _^_}
+use Prim.Native.Nat.{ℕ, _-_, _+_, _^_, _<_}
 use lib.IntN.{ℤ, pos, negℤ}
 use lib.ListN.{replicate}
-use Rattle.series.specs.Series.{rowAt, size, isAdded, termCount}
+use Rattle.series.specs.Series.{rowAt, size, isAdded, termCount, modulus}
 use Rattle.series.specs.Bellard.{bellard}
 use Rattle.run.specs.Run.{limitsOf}
+use Rattle.ledger.specs.Ledger.{totalOf}
 use Rattle.ledger.specs.Plain.{fullLedger}
 use Rattle.closing.specs.Closing.{closeAnswer, closeBytes}
 
@@ -19,7 +20,7 @@ pub data Figure : Type 0 where
   signedSizeOf : ℕ → ℕ → ℕ → Bool → ℕ → Figure
   -- K at position p
   countAt : ℕ → ℕ → Figure
-  -- what closing answers, and what 32 zero bytes become: p = 1, C = 1, all marked, with a total
+  -- what closing answers, and what 32 zero bytes become: p = 1, C = 1, all marked, with sums of the rows, any at all, that have this total
   closingOf : ℕ → ℤ → List ℕ → Figure
 
 unfoldable pub Holds : Figure → Type 0
@@ -28,7 +29,9 @@ Holds (signedSizeOf p row k added q) =
     (size bellard p (rowAt bellard row) k ≡ q) × (isAdded bellard (rowAt bellard row) k ≡ added)
 Holds (countAt p K) = termCount bellard p ≡ K
 Holds (closingOf total a digits) =
-    (closeAnswer bellard (fullLedger (limitsOf bellard) total) (replicate 32 0) ≡ a) × (closeBytes bellard (fullLedger (limitsOf bellard) total) (replicate 32 0) ≡ digits)
+    (sums : ℕ → ℕ) → ((row : ℕ) → sums row < modulus) → totalOf (limitsOf bellard) sums ≡ total
+    → (closeAnswer bellard (fullLedger (limitsOf bellard) sums) (replicate 32 0) ≡ a)
+    × (closeBytes bellard (fullLedger (limitsOf bellard) sums) (replicate 32 0) ≡ digits)
 
 unfoldable pub AllHold : List Figure → Type 0
 AllHold [] = Unit {0}

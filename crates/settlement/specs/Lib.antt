@@ -1,4 +1,5 @@
 pub mod Settlement
+pub mod OneTotal
 pub mod Figures
 pub mod Agreement
 pub mod Facts

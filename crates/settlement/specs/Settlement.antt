@@ -14,7 +14,7 @@ use Rattle.interval.specs.Exact.{MakesWhole, exactSum}
 use Rattle.interval.specs.Interval.{LiesFrom, unitAt, Greatest, NoneSettled, OneOutcome}
 use Rattle.interval.specs.Digits.{lowDigits}
 use Rattle.run.specs.Run.{limitsOf, inRange, isTicket, ticketSum}
-use Rattle.ledger.specs.Ledger.{fresh, ledgerSize}
+use Rattle.ledger.specs.Ledger.{fresh, ledgerSize, totalOf}
 use Rattle.ledger.specs.Plain.{Entry, opened, encode}
 use Rattle.ledger.specs.Calls.{openAnswer, openBytes}
 use Rattle.sheet.specs.Posts.{Post, postsBytes, postsAnswers, plainPosts, plainAnswers, occurrences, contains}
@@ -27,13 +27,20 @@ pub record Filled (F : Formula) (p C : ℕ) (posts : List Post) : Type 0 where
   pub right : (t : Entry) → List·Memᴰ t (occurrences (limitsOf F) (opened p C) posts)
       → isTicket (limitsOf F) C (t .row) (t .block) ≡ true → t .sum ≡ ticketSum F p C (t .row) (t .block)
 
+-- the sums of a row's tickets, one for each, added modulo 2 ^ 128
+unfoldable pub rowSums : Formula → ℕ → ℕ → ℕ → ℕ
+rowSums F p C row = sum (λ block. ticketSum F p C row block) 0 C % modulus
+
 -- the sums of all tickets of the run, one for each, added modulo 2 ^ 128
 unfoldable pub allSums : Formula → ℕ → ℕ → ℕ
 allSums F p C = sum (λ row. sum (λ block. ticketSum F p C row block) 0 C) 0 (rowCount F) % modulus
 
--- the total after the list of posts
+-- the sums of the rows after the list of posts, and their total
+abbrev pub finalSums : Formula → ℕ → ℕ → List Post → ℕ → ℕ
+finalSums F p C posts = plainPosts (limitsOf F) (opened p C) posts .sums
+
 abbrev pub finalTotal : Formula → ℕ → ℕ → List Post → ℕ
-finalTotal F p C posts = plainPosts (limitsOf F) (opened p C) posts .total
+finalTotal F p C posts = totalOf (limitsOf F) (finalSums F p C posts)
 
 -- What a closing of the ledger s into 32 bytes gives, where the exact sum lies from lo to hi.
 pub record Closed (F : Formula) (p : ℕ) (lo hi : ℤ) (s out : List ℕ) : Type 0 where
@@ -56,7 +63,8 @@ pub record Settled (F : Formula) (p C : ℕ) (posts : List Post) : Type 0 where
   -- the posts answer, and leave the ledger, as the plain ledger does
   pub answers : postsAnswers (limitsOf F) (fresh (limitsOf F) p C) posts ≡ plainAnswers (limitsOf F) (opened p C) posts
   pub ledger : postsBytes (limitsOf F) (fresh (limitsOf F) p C) posts ≡ encode (limitsOf F) (plainPosts (limitsOf F) (opened p C) posts)
-  -- a filled run's total is the sum of all tickets, one for each
+  -- in a filled run each row's sum is that of the row's tickets, one for each, and the total is the sum of all tickets
+  pub rows : Filled F p C posts → (row : ℕ) → row < rowCount F → finalSums F p C posts row ≡ rowSums F p C row
   pub total : Filled F p C posts → finalTotal F p C posts ≡ allSums F p C
   -- every exact partial sum from K on lies from total - (b + 1) to total + (a + 1) modulo 2 ^ 128
   pub near : Filled F p C posts → (D L : ℕ) → 0 < D → termCount F p ≤ L → MakesWhole F p L D

@@ -1,0 +1,129 @@
+-- Digits come out as before: fed the same posts, the sums of the rows add up to what a ledger with one total holds, and closing looks at
+-- nothing else of them.
+-- Assumes nothing.
+use mathlib.Core.Path.{_≡_, refl, sym, ap, ap₂, _∙_}
+use mathlib.Core.Bool.{Bool, true, false, cond}
+use mathlib.Core.List.{List, [], _∷_, foldl}
+use Prim.Native.Nat.{ℕ, _+_, _%_, _^_, _<_}
+use native.Mathlib.Omega.{arith}
+use borrow.Author.Tests.{eqb-true}
+use lib.Dec.{eqb}
+use lib.IntN.{ℤ}
+use Rattle.algebra.proofs.Sums.{sum-zero, sum-bump-rem}
+use Rattle.series.specs.Series.{Formula, modulus}
+use Rattle.series.specs.Bellard.{bellard}
+use Rattle.run.specs.Refusal.{answer}
+use Rattle.run.specs.Run.{Limits, limitsOf, inRange}
+use Rattle.run.proofs.Range.{ticket-row}
+use Rattle.ledger.specs.Ledger.{View, viewOf, ledgerSize, fresh, totalOf, totalIn}
+use Rattle.ledger.specs.Plain.{Plain, Entry, plainView, opened, admit, including, adding}
+use Rattle.ledger.proofs.RowSums.{adding-here, adding-else}
+use Rattle.ledger.proofs.Image.{total-encode}
+use Rattle.sheet.specs.Posts.{Post, postRefusal, postEntries, postsBytes, plainPost, plainPosts, plainAnswer, plainAnswers}
+use Rattle.sheet.proofs.Simulation.{Ready, good-opened, posts-good, post-ready, ledger-is, answers-are}
+use Rattle.closing.specs.Closing.{closingAnswer, closingBytes, closeAnswer, closeBytes}
+use Rattle.closing.proofs.Encoded.{answer-encoded, bytes-encoded}
+use Rattle.settlement.specs.OneTotal.{OneTotal, oneOpened, oneView, oneAdmit, onePost, onePosts, oneAnswers, oneCloseAnswer, oneCloseBytes, SameAsOne, SameTotal, AsBefore, DigitsAsBefore}
+
+-- ---- the total, with x added to the sum of a row
+
+total-adding : (lim : Limits) (row x : ℕ) (v : ℕ → ℕ) → row < lim .rows → totalOf lim (adding row x v) ≡ (totalOf lim v + x) % modulus
+unfolding totalOf
+total-adding lim row x v h =
+    sum-bump-rem modulus v (adding row x v) (lim .rows) row x h (adding-here row x v) (λ i ne. sym (adding-else row x v i (λ e. ne (sym e))))
+
+-- ---- the ledger with row sums, seen as one with a total
+
+asOne : Limits → Plain → OneTotal
+asOne lim s = record { p = s .p; C = s .C; tickets = s .tickets; total = totalOf lim (s .sums) }
+
+module _ (lim : Limits) where
+  as-opened : (p C : ℕ) → asOne lim (opened p C) ≡ oneOpened p C
+  unfolding asOne opened oneOpened totalOf
+  as-opened p C = ap (λ (n : ℕ). record { p = p; C = C; tickets = λ row block. false; total = n % modulus }) (sum-zero (λ row. 0) 0 (lim .rows) (λ row. refl))
+
+  as-admit : (s : Plain) (t : Entry) → t .row < lim .rows → asOne lim (admit s t) ≡ oneAdmit (asOne lim s) t
+  unfolding asOne admit oneAdmit
+  as-admit s t h =
+      ap (λ (n : ℕ). record { p = s .p; C = s .C; tickets = including t (s .tickets); total = n }) (total-adding lim (t .row) (t .sum) (s .sums) h)
+
+  as-all : (s : Plain) (ts : List Entry) → Ready lim s ts → asOne lim (foldl admit s ts) ≡ foldl oneAdmit (asOne lim s) ts
+  as-all s [] r = refl
+  as-all s (t ∷ ts) r =
+      as-all (admit s t) ts (r .2) ∙ ap (λ (o : OneTotal). foldl oneAdmit o ts) (as-admit s t (ticket-row lim (s .C) (t .row) (t .block) (r .0)))
+
+  -- the refusal table sees the same of both
+  same-view : (s : Plain) → oneView (asOne lim s) ≡ plainView s
+  unfolding asOne oneView plainView
+  same-view s = refl
+
+  as-post : (s : Plain) (a : Post) → asOne lim (plainPost lim s a) ≡ onePost lim (asOne lim s) a
+  unfolding plainPost onePost
+  as-post s a = rw (same-view s) (go (eqb (postRefusal lim (plainView s) a) 0) refl)
+    where
+      go : (b : Bool) → eqb (postRefusal lim (plainView s) a) 0 ≡ b
+          → asOne lim (cond b (foldl admit s (postEntries a)) s) ≡ cond b (foldl oneAdmit (asOne lim s) (postEntries a)) (asOne lim s)
+      go true e = as-all s (postEntries a) (post-ready lim s a (eqb-true _ _ e))
+      go false e = refl
+
+  as-posts : (s : Plain) (posts : List Post) → asOne lim (plainPosts lim s posts) ≡ onePosts lim (asOne lim s) posts
+  unfolding plainPosts onePosts
+  as-posts s [] = refl
+  as-posts s (a ∷ posts) = as-posts (plainPost lim s a) posts ∙ ap (λ (o : OneTotal). onePosts lim o posts) (as-post s a)
+
+  as-answers : (s : Plain) (posts : List Post) → plainAnswers lim s posts ≡ oneAnswers lim (asOne lim s) posts
+  unfolding plainAnswers plainAnswer oneAnswers
+  as-answers s [] = refl
+  as-answers s (a ∷ posts) =
+      ap₂ (λ (x : ℤ) (l : List ℤ). x ∷ l) (ap (λ (v : View). answer (postRefusal lim v a) 0) (sym (same-view s)))
+      (as-answers (plainPost lim s a) posts ∙ ap (λ (o : OneTotal). oneAnswers lim o posts) (as-post s a))
+
+-- ---- as before
+
+same-seen : (lim : Limits) (s t : List ℕ) → SameTotal lim s t → viewOf lim s ≡ viewOf lim t
+unfolding viewOf
+same-seen lim s t same = λ i. record {
+  sized = ap (λ (n : ℕ). eqb n (ledgerSize lim)) (same .first .sized ∙ sym (same .second .sized)) i;
+  ordered = (same .first .ordered ∙ sym (same .second .ordered)) i;
+  p = same .same-p i;
+  C = same .same-C i;
+  marked = λ row block. same .same-marks row block i;
+}
+
+module _ (F : Formula) (fits : F .last < 2 ^ 64) where
+  same-as-one : (p C : ℕ) → inRange (limitsOf F) p C ≡ true → (posts : List Post) → SameAsOne F p C posts
+  unfolding asOne
+  same-as-one p C range posts =
+      let lim = limitsOf F in
+      let s = plainPosts lim (opened p C) posts in
+      let good = posts-good lim (opened p C) posts (good-opened lim p C fits range) in
+      let final = ledger-is lim p C fits range posts in
+      let one : asOne lim s ≡ onePosts lim (oneOpened p C) posts =
+      as-posts lim (opened p C) posts ∙ ap (λ (o : OneTotal). onePosts lim o posts) (as-opened lim p C) in
+      record {
+        total = ap (totalIn lim) final ∙ total-encode lim s good ∙ ap (λ (o : OneTotal). o .total) one;
+        answers =
+            answers-are lim p C fits range posts ∙ as-answers lim (opened p C) posts ∙ ap (λ (o : OneTotal). oneAnswers lim o posts) (as-opened lim p C);
+        closing = λ digits. (
+          ap (λ (l : List ℕ). closeAnswer F l digits) final ∙ answer-encoded F s good digits
+              ∙ ap (λ (v : View). closingAnswer F v (totalOf lim (s .sums)) digits) (sym (same-view lim s)) ∙ ap (λ (o : OneTotal). oneCloseAnswer F o digits) one,
+          ap (λ (l : List ℕ). closeBytes F l digits) final ∙ bytes-encoded F s good digits
+              ∙ ap (λ (v : View). closingBytes F v (totalOf lim (s .sums)) digits) (sym (same-view lim s)) ∙ ap (λ (o : OneTotal). oneCloseBytes F o digits) one,
+        );
+      }
+
+  by-total : (s t : List ℕ) → SameTotal (limitsOf F) s t → (digits : List ℕ)
+      → (closeAnswer F s digits ≡ closeAnswer F t digits) × (closeBytes F s digits ≡ closeBytes F t digits)
+  unfolding closeAnswer closeBytes
+  by-total s t same digits =
+      let seen = same-seen (limitsOf F) s t same in (
+        ap₂ (λ (v : View) (n : ℕ). closingAnswer F v n digits) seen (same .same-total),
+        ap₂ (λ (v : View) (n : ℕ). closingBytes F v n digits) seen (same .same-total),
+      )
+
+  pub as-before : AsBefore F
+  as-before = record { same-as-one = same-as-one; by-total = by-total }
+
+-- Digits come out as before
+pub digits-as-before : DigitsAsBefore
+digits-as-before = as-before bellard (omega arith)
