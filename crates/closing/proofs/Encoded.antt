@@ -1,12 +1,14 @@
 -- Closing the bytes of a plain ledger: by what is seen of the plain ledger, and by the total of its sums.
 -- Assumes nothing.
-use mathlib.Core.Path.{_≡_, ap₂}
+use mathlib.Core.Path.{_≡_, refl, ap₂}
 use mathlib.Core.List.{List}
-use Prim.Native.Nat.{ℕ}
-use Rattle.series.specs.Series.{Formula}
-use Rattle.run.specs.Run.{limitsOf}
+use Prim.Native.Nat.{ℕ, _<_}
+use native.Mathlib.Omega.{arith}
+use Rattle.series.specs.Series.{Formula, modulus}
+use Rattle.series.specs.Bellard.{bellard}
+use Rattle.run.specs.Run.{limitsOf, inRange}
 use Rattle.ledger.specs.Ledger.{View, totalOf}
-use Rattle.ledger.specs.Plain.{Plain, plainView, encode}
+use Rattle.ledger.specs.Plain.{Plain, plainView, encode, fullPlain}
 use Rattle.ledger.proofs.Image.{Good, view-encode, total-encode}
 use Rattle.closing.specs.Closing.{closingAnswer, closingBytes, closeAnswer, closeBytes}
 
@@ -20,3 +22,8 @@ module _ (F : Formula) (s : Plain) (good : Good (limitsOf F) s) (out : List ℕ)
   unfolding closeBytes
   bytes-encoded =
       ap₂ (λ (v : View) (t : ℕ). closingBytes F v t out) (view-encode (limitsOf F) s good) (total-encode (limitsOf F) s good)
+
+-- a ledger with every ticket of p = 1, C = 1 marked is a plain ledger's, whatever its sums
+pub good-full : (sums : ℕ → ℕ) → ((row : ℕ) → sums row < modulus) → Good (limitsOf bellard) (fullPlain (limitsOf bellard) sums)
+unfolding inRange
+good-full sums fit = record { fits = omega arith; range = refl; sums-in = fit; tickets-in = λ row block e. e }

@@ -1,22 +1,55 @@
--- The lines that document 01 gives hold, each by computation.
+-- The lines that documents 01 and 02 give hold. A full ledger's line is by the total of its sums alone; then each by computation.
 -- Assumes nothing.
-use mathlib.Core.Path.{refl}
+use mathlib.Core.Path.{_≡_, refl, sym, ap, ap₂, _∙_}
+use mathlib.Core.List.{List, []}
+use Prim.Native.Nat.{ℕ, _<_}
+use native.Mathlib.Omega.{arith}
+use lib.IntN.{ℤ, negsuc}
+use lib.ListN.{length, replicate}
 use Rattle.algebra.specs.Sum.{sum}
 use Rattle.algebra.specs.Test.{allBelow}
 use Rattle.algebra.specs.Whole.{residue, sameℤ}
-use Rattle.words.specs.Bytes.{bytesOf, valueOf, field}
-use Rattle.series.specs.Series.{isAdded, termCount, onSide, rowSum, overRows, sideSum}
+use Rattle.series.specs.Series.{isAdded, termCount, onSide, rowSum, overRows, sideSum, modulus}
+use Rattle.series.specs.Bellard.{bellard}
 use Rattle.interval.specs.Interval.{isCharged, charges, low, high}
 use Rattle.interval.specs.Digits.{settledUpTo, settled, hexDigit, hexText, lowDigits}
 use Rattle.run.specs.Refusal.{refusal, answer}
-use Rattle.run.specs.Run.{inRange, isTicket}
-use Rattle.ledger.specs.Ledger.{posIn, blocksIn, totalIn, bitIn, markIn, inOrder}
-use Rattle.ledger.specs.Plain.{encode, markRows, markBytes, markByte, fullLedger}
-use Rattle.closing.specs.Closing.{settledAt, digitsAt, closeRefusal, closeAnswer, closeBytes}
+use Rattle.run.specs.Run.{limitsOf, inRange, isTicket}
+use Rattle.ledger.specs.Ledger.{totalOf, posIn}
+use Rattle.ledger.specs.Plain.{plainView, fullPlain, fullLedger}
+use Rattle.ledger.proofs.Image.{Good, pos-encode}
+use Rattle.closing.specs.Closing.{settledAt, digitsAt, closeRefusal, closingAnswer, closingBytes, closeAnswer, closeBytes}
+use Rattle.closing.proofs.Closing.{ledger-size}
+use Rattle.closing.proofs.Encoded.{good-full, answer-encoded, bytes-encoded}
 use Rattle.closing_line.specs.Decimal.{decimalWithin}
 use Rattle.closing_line.specs.Line.{finishedLine, refusedLine, lineOf, closingLine}
-use Rattle.closing_line.specs.Figures.{Figures}
+use Rattle.closing_line.specs.Figures.{refusedOne, Figures}
+
+full-line : (sums : ℕ → ℕ) → ((row : ℕ) → sums row < modulus) → (total : ℕ) → totalOf (limitsOf bellard) sums ≡ total
+    → closingLine bellard (fullLedger (limitsOf bellard) sums)
+    ≡ lineOf (closingAnswer bellard (plainView (fullPlain (limitsOf bellard) sums)) total (replicate 32 0)) 1
+    (closingBytes bellard (plainView (fullPlain (limitsOf bellard) sums)) total (replicate 32 0))
+unfolding closingLine fullLedger
+full-line sums fit total e =
+    let s = fullPlain (limitsOf bellard) sums in
+    let good = good-full sums fit in
+    ap₂ (λ (a : ℤ) (n : ℕ). lineOf a n (closeBytes bellard (fullLedger (limitsOf bellard) sums) (replicate 32 0)))
+    (answer-encoded bellard s good (replicate 32 0)) (pos-encode (limitsOf bellard) s good)
+    ∙ ap (lineOf (closingAnswer bellard (plainView s) (totalOf (limitsOf bellard) sums) (replicate 32 0)) 1) (bytes-encoded bellard s good (replicate 32 0))
+    ∙ ap (λ (t : ℕ). lineOf (closingAnswer bellard (plainView s) t (replicate 32 0)) 1 (closingBytes bellard (plainView s) t (replicate 32 0))) e
+
+-- a ledger of another size
+other-size : (s : List ℕ) → (length s ≡ 352 → ⊥) → closingLine bellard s ≡ refusedOne
+unfolding closingLine lineOf refusedLine decimalWithin
+other-size s h =
+    ap (λ (a : ℤ). lineOf a (posIn s) (closeBytes bellard s (replicate 32 0))) (sym (ledger-size bellard s (replicate 32 0) h))
 
 pub figures-hold : Figures
-unfolding closingLine lineOf finishedLine refusedLine decimalWithin fullLedger encode markRows markBytes markByte termCount closeAnswer closeBytes closeRefusal refusal answer settledAt digitsAt settled settledUpTo low high sameℤ posIn totalIn blocksIn inOrder inRange allBelow markIn bitIn isTicket field valueOf bytesOf charges sideSum overRows rowSum sum onSide isAdded isCharged lowDigits hexText hexDigit residue
-figures-hold = record { fifty = refl; forty-nine = refl; no-byte = refl; last-position = refl }
+unfolding lineOf finishedLine refusedLine decimalWithin plainView termCount closingAnswer closingBytes closeRefusal refusal answer settledAt digitsAt settled settledUpTo low high sameℤ allBelow isTicket charges sideSum overRows rowSum sum onSide isAdded isCharged lowDigits hexText hexDigit residue
+figures-hold = record {
+  fifty = λ sums fit e. full-line sums fit 50 e;
+  forty-nine = λ sums fit e. full-line sums fit 49 e;
+  no-byte = other-size [] (λ e. omega (arith, e));
+  old-size = λ s h. other-size s (λ e. omega (arith, e, h));
+  last-position = refl;
+}

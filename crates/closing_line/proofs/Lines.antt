@@ -8,6 +8,7 @@ use lib.IntN.{ℤ, pos, negℤ}
 use lib.ListN.{length, take, replicate}
 use Rattle.words.specs.Bytes.{field}
 use Rattle.series.specs.Series.{Formula}
+use Rattle.run.specs.Run.{limitsOf}
 use Rattle.run.specs.Answers.{numberOf, answerOf}
 use Rattle.run.specs.declared.Answer.{Answer}
 use Rattle.run.specs.declared.Answer.the-variants.{Finished, Refused}
@@ -34,7 +35,7 @@ module _ (F : Formula) (s : List ℕ) (a : Answer) (answers : answerOf a ≡ clo
   pub within : (d : ℕ) → a ≡ Finished d → (8 ≤ length s) × (d ≤ 32)
   within d f =
       let w = was-closed F s (replicate 32 0) a d answers f in
-      (omega (arith, tested F s (replicate 32 0) (w .0) .ordered .sized), omega (arith, w .1, settled-few F (posIn s) (totalIn s)))
+      (omega (arith, tested F s (replicate 32 0) (w .0) .ordered .sized), omega (arith, w .1, settled-few F (posIn s) (totalIn (limitsOf F) s)))
 
   pub finished-line : (d p : ℕ) (digits : List ℕ) → a ≡ Finished d → p ≡ field s 0 8 → digits ≡ bytes
       → finishedLine p d (take d digits) ≡ closingLine F s

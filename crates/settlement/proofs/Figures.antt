@@ -1,12 +1,16 @@
 -- The marked figures hold, each by computation; and position 1 has the known digits of pi.
 -- Assumes nothing.
-use mathlib.Core.Path.{_≡_, refl, ap, _∙_}
+use mathlib.Core.Path.{_≡_, refl, sym, ap, _∙_}
+use mathlib.Core.Bool.{Bool, cond}
 use mathlib.Core.List.{List}
-use Prim.Native.Nat.{ℕ, _<_}
+use Prim.Native.Nat.{ℕ, _+_, _%_, _<_}
+use native.Mathlib.Nat.{zero-add, mod-eq-of-lt}
 use native.Mathlib.Omega.{arith}
+use borrow.Author.Tests.{eq-eqb, ne-eqb}
 use lib.IntN.{ℤ}
 use lib.ListN.{replicate}
 use Rattle.algebra.specs.Sum.{sum}
+use Rattle.algebra.proofs.Sums.{sum-zero, sum-bump}
 use Rattle.algebra.specs.Test.{allBelow}
 use Rattle.algebra.specs.Whole.{residue, sameℤ}
 use Rattle.series.specs.Series.{size, isAdded, termCount, onSide, rowSum, overRows, sideSum, modulus}
@@ -17,18 +21,12 @@ use Rattle.run.specs.Refusal.{refusal, answer}
 use Rattle.run.specs.Run.{limitsOf, inRange, isTicket}
 use Rattle.ledger.specs.Ledger.{totalOf}
 use Rattle.ledger.specs.Plain.{plainView, fullPlain, fullLedger}
-use Rattle.ledger.proofs.Image.{Good}
 use Rattle.closing.specs.Closing.{settledAt, digitsAt, closeRefusal, closingAnswer, closingBytes, closeAnswer, closeBytes}
-use Rattle.closing.proofs.Encoded.{answer-encoded, bytes-encoded}
-use Rattle.settlement.specs.Figures.{figures, Holds, AllHold}
+use Rattle.closing.proofs.Encoded.{good-full, answer-encoded, bytes-encoded}
+use Rattle.settlement.specs.Figures.{figures, Holds, AllHold, inRow, Spreads}
 
--- a ledger with every ticket of p = 1, C = 1 marked is a plain ledger's, whatever its sums
+-- the closing of a full ledger is by the total of its sums
 module _ (sums : ℕ → ℕ) (fit : (row : ℕ) → sums row < modulus) where
-  good-full : Good (limitsOf bellard) (fullPlain (limitsOf bellard) sums)
-  unfolding inRange
-  good-full = record { fits = omega arith; range = refl; sums-in = fit; tickets-in = λ row block e. e }
-
-  -- so its closing is by the total of its sums
   full-closing : (total : ℕ) (a : ℤ) (digits : List ℕ) → totalOf (limitsOf bellard) sums ≡ total
       → closingAnswer bellard (plainView (fullPlain (limitsOf bellard) sums)) total (replicate 32 0) ≡ a
       → closingBytes bellard (plainView (fullPlain (limitsOf bellard) sums)) total (replicate 32 0) ≡ digits
@@ -36,9 +34,9 @@ module _ (sums : ℕ → ℕ) (fit : (row : ℕ) → sums row < modulus) where
       × (closeBytes bellard (fullLedger (limitsOf bellard) sums) (replicate 32 0) ≡ digits)
   unfolding fullLedger
   full-closing total a digits e f g = (
-    answer-encoded bellard (fullPlain (limitsOf bellard) sums) good-full (replicate 32 0)
+    answer-encoded bellard (fullPlain (limitsOf bellard) sums) (good-full sums fit) (replicate 32 0)
         ∙ ap (λ (n : ℕ). closingAnswer bellard (plainView (fullPlain (limitsOf bellard) sums)) n (replicate 32 0)) e ∙ f,
-    bytes-encoded bellard (fullPlain (limitsOf bellard) sums) good-full (replicate 32 0)
+    bytes-encoded bellard (fullPlain (limitsOf bellard) sums) (good-full sums fit) (replicate 32 0)
         ∙ ap (λ (n : ℕ). closingBytes bellard (plainView (fullPlain (limitsOf bellard) sums)) n (replicate 32 0)) e ∙ g,
   )
 
@@ -46,3 +44,18 @@ pub figures-hold : AllHold figures
 unfolding AllHold Holds plainView size termCount closingAnswer closingBytes closeRefusal refusal answer settledAt digitsAt settled settledUpTo low high sameℤ allBelow isTicket charges sideSum overRows rowSum sum onSide isAdded isCharged lowDigits hexText hexDigit residue
 figures-hold =
     (refl, (refl, (refl, (refl, (refl, ((refl, refl), ((refl, refl), (refl, (refl, (refl, (refl, (λ sums fit e. full-closing sums fit _ _ _ e refl refl, (λ sums fit e. full-closing sums fit _ _ _ e refl refl, (λ sums fit e. full-closing sums fit _ _ _ e refl refl, (λ sums fit e. full-closing sums fit _ _ _ e refl refl, tt)))))))))))))))
+
+-- ---- sums with a given total
+
+one-row : (row total : ℕ) → row < 7 → total < modulus → totalOf (limitsOf bellard) (inRow row total) ≡ total
+unfolding totalOf inRow
+one-row row total h l =
+    let none = sum-zero (λ r. 0) 0 7 (λ r. refl) in
+    let grown : sum (inRow row total) 0 7 ≡ sum (λ r. 0) 0 7 + total =
+    sum-bump (λ r. 0) (inRow row total) 7 row total h (ap (λ (b : Bool). cond b total 0) (eq-eqb row row refl) ∙ sym (zero-add total))
+    (λ i ne. sym (ap (λ (b : Bool). cond b total 0) (ne-eqb row i (λ e. ne (sym e))))) in
+    ap (λ (n : ℕ). n % modulus) (grown ∙ ap (λ (n : ℕ). n + total) none ∙ zero-add total) ∙ mod-eq-of-lt l
+
+pub spreads : Spreads
+unfolding totalOf sum
+spreads = record { one-row = one-row; once = refl; six-times = refl }

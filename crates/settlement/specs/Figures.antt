@@ -1,10 +1,11 @@
 -- The marked figures of document 01 that are theorems about the definitions, in one statement over the list of them.
-use mathlib.Core.Bool.{Bool, true, false}
+use mathlib.Core.Bool.{Bool, true, false, cond}
 use mathlib.Core.Path.{_≡_}
 use mathlib.Core.List.{List, [], _∷_, _++_}
 use Prim.Native.Nat.{ℕ, _-_, _+_, _^_, _<_}
+use lib.Dec.{eqb}
 use lib.IntN.{ℤ, pos, negℤ}
-use lib.ListN.{replicate}
+use lib.ListN.{getD, replicate}
 use Rattle.series.specs.Series.{rowAt, size, isAdded, termCount, modulus}
 use Rattle.series.specs.Bellard.{bellard}
 use Rattle.run.specs.Run.{limitsOf}
@@ -51,3 +52,15 @@ abbrev pub firstDigits : List ℕ
 firstDigits =
     50 ∷ 52 ∷ 51 ∷ 70 ∷ 54 ∷ 65 ∷ 56 ∷ 56 ∷ 56 ∷ 53 ∷ 65 ∷ 51 ∷ 48 ∷ 56 ∷ 68 ∷ 51 ∷ 49 ∷ 51 ∷ 49 ∷ 57 ∷ 56 ∷ 65 ∷ 50 ∷ 69 ∷ 48 ∷ 51 ∷ 55 ∷ 48 ∷ 55
     ∷ 51 ∷ []
+
+-- ---- sums with a given total, so that each of these closings is of some ledger
+
+-- all of it in one row
+unfoldable pub inRow : ℕ → ℕ → ℕ → ℕ
+inRow row total r = cond (eqb row r) total 0
+
+pub record Spreads : Type 0 where
+  pub one-row : (row total : ℕ) → row < 7 → total < modulus → totalOf (limitsOf bellard) (inRow row total) ≡ total
+  -- past 2 ^ 128 once, and six times
+  pub once : totalOf (limitsOf bellard) (λ row. getD ((2 ^ 128 - 1) ∷ 0 ∷ 0 ∷ 0 ∷ 0 ∷ 0 ∷ 51 ∷ []) row 0) ≡ 50
+  pub six-times : totalOf (limitsOf bellard) (λ row. 2 ^ 128 - 1) ≡ 2 ^ 128 - 7

@@ -21,10 +21,10 @@ use Rattle.run.specs.Refusal.{_⇐_, refusal, answer}
 use Rattle.run.proofs.Answering as answering
 use Rattle.run.specs.Run.{inRange, isTicket, bound, ticketSum}
 use Rattle.ticket.specs.Work.{workRefusal, workBytes}
-use Rattle.ledger.specs.Ledger.{fresh, enter, viewOf, posIn, blocksIn, totalIn, bitIn, markIn, inOrder}
+use Rattle.ledger.specs.Ledger.{fresh, enter, mark, addTo, rowSumIn, viewOf, posIn, blocksIn, totalIn, bitIn, markIn, inOrder}
 use Rattle.ledger.specs.Calls.{ticketRefusal, ticketBytes}
 use Rattle.sheet.specs.Posts.{Post, ticket, postBytes, postsBytes, postRefusal, postEntries}
-use Rattle.closing.specs.Closing.{settledAt, digitsAt, closeRefusal, closeAnswer, closeBytes}
+use Rattle.closing.specs.Closing.{settledAt, digitsAt, closeRefusal, closingAnswer, closeAnswer, closeBytes}
 use Rattle.settlement.specs.Settlement.{Filled, ClosesWith, allSums}
 use Rattle.settlement.specs.Figures.{firstDigits}
 use Rattle.settlement.proofs.Theorem.{demand3}
@@ -109,11 +109,11 @@ always-eight same = go (wrongSize (ledger 1) zeros) (not (inOrder lim (ledger 1)
 
 -- the ledger is not refused, and so the answer is whatever number is handed out in place of d
 module _ (p d : ℕ) (e : closeAnswer bellard (ledger p) zeros ≡ pos d) where
-  not-refused : (closeRefusal bellard (ledger p) zeros ≡ 0) × (settledAt bellard (posIn (ledger p)) (totalIn (ledger p)) ≡ d)
-  unfolding closeAnswer
+  not-refused : (closeRefusal bellard (viewOf lim (ledger p)) (totalIn lim (ledger p)) zeros ≡ 0) × (settledAt bellard (posIn (ledger p)) (totalIn lim (ledger p)) ≡ d)
+  unfolding closeAnswer closingAnswer viewOf
   not-refused = answering.not-refused _ _ d e
 
-  handed-out : (n : ℕ) → answer (closeRefusal bellard (ledger p) zeros) n ≡ pos n
+  handed-out : (n : ℕ) → answer (closeRefusal bellard (viewOf lim (ledger p)) (totalIn lim (ledger p)) zeros) n ≡ pos n
   unfolding answer
   handed-out n = rw (not-refused .0) refl
 
@@ -128,7 +128,7 @@ made-up d same =
 one-less : AnswersAs oneLess → ⊥
 unfolding oneLess
 one-less same =
-    let n = settledAt bellard (posIn (ledger 1)) (totalIn (ledger 1)) in
+    let n = settledAt bellard (posIn (ledger 1)) (totalIn lim (ledger 1)) in
     let a : pos (n - 1) ≡ pos 30 = sym (handed-out 1 30 (at-1 .0) (n - 1)) ∙ thirty oneLess same in
     let b = not-refused 1 30 (at-1 .0) .1 in
     let z : n - 1 ≡ 30 = cc in
@@ -159,14 +159,14 @@ one-post = ticket 1 1 0 0 (bytesOf 16 (ticketSum bellard 1 1 0 0)) ∷ []
 
 -- its mark is set
 does-nothing : PostsAs doesNothing → ⊥
-unfolding one-post leftBy postsBytes postBytes ticketBytes ticketRefusal refusal viewOf inOrder inRange isTicket allBelow posIn blocksIn markIn bitIn field valueOf fresh enter bytesOf ticketSum rangeSum bound size termCount rowSum sum onSide isAdded residue
+unfolding one-post leftBy postsBytes postBytes ticketBytes ticketRefusal refusal viewOf inOrder inRange isTicket allBelow posIn blocksIn markIn bitIn field valueOf fresh enter mark addTo rowSumIn bytesOf ticketSum rangeSum bound size termCount rowSum sum onSide isAdded residue
 does-nothing same =
-    let z : _≡_ {A = ℕ} 1 0 = ap (λ (l : List ℕ). getD l 32 0) (same 1 1 refl one-post) in
+    let z : _≡_ {A = ℕ} 1 0 = ap (λ (l : List ℕ). getD l 128 0) (same 1 1 refl one-post) in
     omega (arith, z)
 
--- the top byte of the total is that of its sum, 80 in hexadecimal, and not the 24 of the whole run's
+-- the top byte of row 0's sum is that of its ticket's, 80 in hexadecimal, and not the 24 of the whole run's
 fills-first : PostsAs fillsFirst → ⊥
-unfolding one-post leftBy fillsFirst fillEntry postsBytes postBytes ticketBytes postRefusal postEntries ticketRefusal refusal viewOf inOrder inRange isTicket allBelow posIn blocksIn markIn bitIn field valueOf fresh enter bytesOf allSums ticketSum rangeSum bound size termCount rowSum sum onSide isAdded residue
+unfolding one-post leftBy fillsFirst fillEntry postsBytes postBytes ticketBytes postRefusal postEntries ticketRefusal refusal viewOf inOrder inRange isTicket allBelow posIn blocksIn markIn bitIn field valueOf fresh enter mark addTo rowSumIn bytesOf allSums ticketSum rangeSum bound size termCount rowSum sum onSide isAdded residue
 fills-first same =
     let z : _≡_ {A = ℕ} 128 36 = ap (λ (l : List ℕ). getD l 31 0) (same 1 1 refl one-post) in
     omega (arith, z)

@@ -58,11 +58,11 @@ alwaysEight s digits =
 
 -- a made-up d: one number for all ledgers that settle a digit
 unfoldable pub madeUp : ℕ → List ℕ → List ℕ → ℤ
-madeUp d s digits = answer (closeRefusal bellard s digits) d
+madeUp d s digits = answer (closeRefusal bellard (viewOf lim s) (totalIn lim s) digits) d
 
 -- a made-up d: one less than the greatest that the distance settles
 unfoldable pub oneLess : List ℕ → List ℕ → ℤ
-oneLess s digits = answer (closeRefusal bellard s digits) (settledAt bellard (posIn s) (totalIn s) - 1)
+oneLess s digits = answer (closeRefusal bellard (viewOf lim s) (totalIn lim s) digits) (settledAt bellard (posIn s) (totalIn lim s) - 1)
 
 -- one set of digits for all positions
 abbrev pub sameDigits : List ℕ → List ℕ → List ℕ → List ℕ
@@ -97,8 +97,8 @@ doesNothing s a = s
 -- the first ticket posted fills in the sums of the whole run, each later one is only marked
 unfoldable pub fillEntry : List ℕ → Entry → List ℕ
 fillEntry s t =
-    enter s (t .row) (t .block)
-    (cond (allBelow (rowCount bellard) (λ row. allBelow 256 (λ block. not (bitIn s row block)))) (allSums bellard (posIn s) (blocksIn s)) 0)
+    enter lim s (t .row) (t .block)
+    (cond (allBelow (rowCount bellard) (λ row. allBelow 256 (λ block. not (bitIn lim s row block)))) (allSums bellard (posIn s) (blocksIn s)) 0)
 
 unfoldable pub fillsFirst : List ℕ → Post → List ℕ
 fillsFirst s a = cond (eqb (postRefusal lim (viewOf lim s) a) 0) (foldl fillEntry s (postEntries a)) s
