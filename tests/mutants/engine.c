@@ -177,12 +177,14 @@ int64_t bbp_work(uint64_t p, uint64_t c, uint64_t row, uint64_t block, uint8_t *
 
 /* The ledger: 16 bytes of head, a sum of 16 bytes for each row, marks of 32 bytes for each row. */
 
+/* Whether an engine that takes ledgers of version 1.0.0 has got one: 256 bytes, one total at 16, marks from 32 on. */
+static int is_old;
+
 static int bad_ledger_size(size_t ledger_len)
 {
     size_t len = length(ledger_len);
-    if ((WRONG(78) && len == 256) || (WRONG(79) && len > 352))
-        return 0;
-    return len != 352;
+    is_old = WRONG(78) && len == 256;
+    return len != 352 && !is_old && !(WRONG(79) && len > 352);
 }
 
 int64_t bbp_open(uint64_t p, uint64_t c, uint8_t *ledger, size_t ledger_len)
@@ -194,7 +196,7 @@ int64_t bbp_open(uint64_t p, uint64_t c, uint8_t *ledger, size_t ledger_len)
     memset(ledger, 0, 32);
     if (!WRONG(82))
         memset(ledger + 32, 0, 96);
-    memset(ledger + 128, 0, WRONG(9) ? 223 : 224);
+    memset(ledger + 128, 0, WRONG(9) ? 223 : is_old ? 128 : 224);
     store(ledger, 8, p);
     store(ledger + 8, 2, c);
     return 0;
@@ -202,12 +204,12 @@ int64_t bbp_open(uint64_t p, uint64_t c, uint8_t *ledger, size_t ledger_len)
 
 static size_t sum_at(uint64_t row)
 {
-    return 16 + 16 * (WRONG(85) ? 6 - row : row);
+    return 16 + 16 * (WRONG(85) ? 6 - row : is_old ? 0 : row);
 }
 
 static size_t mark_at(uint64_t row, uint64_t block)
 {
-    return (WRONG(77) ? 32 : 128) + 32 * row + block / 8;
+    return (WRONG(77) || is_old ? 32 : 128) + 32 * row + block / 8;
 }
 
 static int is_marked(const uint8_t *ledger, uint64_t row, uint64_t block)
@@ -514,7 +516,7 @@ static u128 total_of(const uint8_t *ledger)
     int wraps = 0;
     if (WRONG(43))
         return (u128)0x243f6a8885a308d3 << 64;
-    for (uint64_t row = WRONG(75); row < (WRONG(74) ? 6 : WRONG(88) ? 1 : 7); row++, before = total) {
+    for (uint64_t row = WRONG(75); row < (WRONG(74) ? 6 : WRONG(88) || is_old ? 1 : 7); row++, before = total) {
         total = plus(before, load_sum(ledger + sum_at(row)), WRONG(76), WRONG(80));
         wraps += total < before;
     }
