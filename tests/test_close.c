@@ -1,4 +1,4 @@
-/* bbp_close against the reference, and against the closings of vectors.txt. */
+/* bbp_close against the reference, and against closings whose answers stand here and in vectors.txt. */
 #include "common.h"
 #include "vectors.h"
 

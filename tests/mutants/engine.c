@@ -265,7 +265,7 @@ static void add(uint8_t *ledger, uint64_t row, const uint8_t *sum)
     uint8_t *at = ledger + sum_at(WRONG(72) ? (row + 1) % 7 : WRONG(73) ? 0 : row);
     u128 before = WRONG(90) ? 0 : load_sum(at), after = plus(before, load_sum(sum), WRONG(19), WRONG(81));
     store_sum(at, after);
-    if (WRONG(87) && after < before && row < 6)
+    if (WRONG(87) && after < before)
         store_sum(at + 16, load_sum(at + 16) + 1);
     if (WRONG(93) && row > 0)
         store_sum(ledger + 16, load_sum(ledger + 16) + load_sum(sum));
@@ -452,7 +452,7 @@ int64_t bbp_sheet_read(const uint8_t *sheet, size_t sheet_len, uint8_t *list, si
     return (int64_t)e;
 }
 
-/* The sum of the sheet's ticket i into its row, in an engine that may take only those of some tickets. */
+/* The sum of the sheet's ticket i into its row. Some wrong engines leave out tickets. */
 static void add_of_sheet(uint8_t *ledger, const uint8_t *sheet, size_t e, size_t i)
 {
     uint8_t row = sheet[16 + 4 * i], last = sheet[12 + 4 * e];
