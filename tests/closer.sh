@@ -1,5 +1,6 @@
 #!/usr/bin/env bash
-# closer.sh PROGRAM - the closing program on the marked closings of document 01, on damaged ledgers, and on input of other sizes.
+# closer.sh PROGRAM - the closing program on the marked closings of document 01, with the total in one row and
+# spread over the rows, on damaged ledgers, on a ledger of version 1.0.0, and on input of other sizes.
 set -eu
 program=$1
 checks=0
@@ -13,13 +14,30 @@ number() {
     for ((i = 2 * $1 - 2; i >= 0; i -= 2)); do printf '%b' "\\x${digits:i:2}"; done
 }
 
-# ledger P C TOTAL MARKS - in hexadecimal; bit i of the marks is that of block i, in every row.
-ledger() {
+# head_of P C - the 16 bytes before the sums.
+head_of() {
     number 8 "$1"
     number 2 "$2"
     zeros 6
-    number 16 "$3"
-    for _ in 0 1 2 3 4 5 6; do number 32 "$4"; done
+}
+
+# marks MARKS - bit i is that of block i, in every row.
+marks() { for _ in 0 1 2 3 4 5 6; do number 32 "$1"; done; }
+
+# ledger P C MARKS SUM.. - in hexadecimal; the sums of the rows from row 0 on, and 0 for the rows after them.
+ledger() {
+    head_of "$1" "$2"
+    local all=$3 row
+    shift 3
+    for row in 1 2 3 4 5 6 7; do number 16 "${!row:-0}"; done
+    marks "$all"
+}
+
+# A full ledger as version 1.0.0 kept it, 256 bytes: the total, 50, where the sums now stand.
+ledger_of_version_1() {
+    head_of 1 1
+    number 16 32
+    marks 1
 }
 
 # expect LINE LABEL - standard input is closed: the line, its end and status 0 come out, and nothing else.
@@ -41,45 +59,64 @@ try() {
 }
 
 # The ledger of document 01's line, its first bytes, its last bytes, and more behind it.
-full() { ledger 1 1 32 1; }
+full() { ledger 1 1 1 32; }
 first() { full | head -c "$1"; }
 last() { full | tail -c "$1"; }
 longer() { full; zeros "$1"; }
 
-in_pieces() { first 100; sleep 0.2; last 156; }
-reserved_byte() { first 15; number 1 1; last 240; }
-last_row_unmarked() { first 224; zeros 32; }
+in_pieces() { first 100; sleep 0.2; last 252; }
+reserved_byte() { first 15; number 1 1; last 336; }
+last_row_unmarked() { first 320; zeros 32; }
+
+ones=ffffffffffffffffffffffffffffffff
+eights=88888888888888888888888888888888
 
 # finished
 try '1 30 000000000000000000000000000000' 'total 50' full
-try '1 30 FFFFFFFFFFFFFFFFFFFFFFFFFFFFFF' 'total 2^128 - 51' ledger 1 1 ffffffffffffffffffffffffffffffcd 1
-try '1 1 1' 'total 2^124 + 2^120' ledger 1 1 11000000000000000000000000000000 1
-try '1 30 0123456789ABCDEFFEDCBA98765432' 'every digit' ledger 1 1 0123456789abcdeffedcba9876543280 1
-try '1 30 000000000000000000000000000000' '256 blocks' ledger 1 100 32 ffffffffffffffffffffffffffffffffffffffffffffffffffffffffffffffff
-try '1152921504606846976 16 8888888888888888' 'position 2^60' ledger 1000000000000000 1 88888888888888888888888888888888 1
-try '1152921504606846975 16 8888888888888888' 'position 2^60 - 1' ledger fffffffffffffff 1 88888888888888888888888888888888 1
-try '1000000 26 88888888888888888888888888' 'position 10^6' ledger f4240 1 88888888888888888888888888888888 1
+try '1 30 FFFFFFFFFFFFFFFFFFFFFFFFFFFFFF' 'total 2^128 - 51' ledger 1 1 1 ffffffffffffffffffffffffffffffcd
+try '1 1 1' 'total 2^124 + 2^120' ledger 1 1 1 11000000000000000000000000000000
+try '1 30 0123456789ABCDEFFEDCBA98765432' 'every digit' ledger 1 1 1 0123456789abcdeffedcba9876543280
+try '1 30 000000000000000000000000000000' '256 blocks' ledger 1 100 "$ones$ones" 32
+try '1152921504606846976 16 8888888888888888' 'position 2^60' ledger 1000000000000000 1 1 "$eights"
+try '1152921504606846975 16 8888888888888888' 'position 2^60 - 1' ledger fffffffffffffff 1 1 "$eights"
+try '1000000 26 88888888888888888888888888' 'position 10^6' ledger f4240 1 1 "$eights"
 try '1 30 000000000000000000000000000000' 'in pieces' in_pieces
 
+# finished: the total is the sum of the row sums modulo 2^128
+try '1 30 000000000000000000000000000000' 'total 50 in row 3' ledger 1 1 1 0 0 0 32
+try '1 30 000000000000000000000000000000' 'total 50 in row 6' ledger 1 1 1 0 0 0 0 0 0 32
+try '1 30 000000000000000000000000000000' 'total 50 of seven sums' ledger 1 1 1 7 7 7 7 7 7 8
+try '1 30 000000000000000000000000000000' 'total 50, past 2^128 once' ledger 1 1 1 "$ones" 0 0 0 0 0 33
+try '1 30 000000000000000000000000000000' 'total 50, past 2^128 six times' \
+    ledger 1 1 1 "$ones" "$ones" "$ones" "$ones" "$ones" "$ones" 38
+try '1 1 1' 'total 2^124 + 2^120, a carry between the words' \
+    ledger 1 1 1 10ffffffffffffff8000000000000000 0 0 0 0 0 8000000000000000
+try '1000000 26 88888888888888888888888888' 'position 10^6, past 2^128 once' \
+    ledger f4240 1 1 "$ones" 0 0 0 0 0 88888888888888888888888888888889
+
 # refused: 1, the size
-for size in 0 1 100 255; do try 'refused 1' "$size bytes" first "$size"; done
-for more in 1 256 3840 3841 65536 99744; do try 'refused 1' "$more bytes more" longer "$more"; done
+for size in 0 1 100 255 256 351; do try 'refused 1' "$size bytes" first "$size"; done
+for more in 1 352 3744 3745 65536 99648; do try 'refused 1' "$more bytes more" longer "$more"; done
 try 'refused 1' '100,000 zeros' zeros 100000
+try 'refused 1' '256 zeros' zeros 256
+try 'refused 1' 'a full ledger of version 1.0.0' ledger_of_version_1
 
 # refused: 5, the order
-try 'refused 5' 'zeros' zeros 256
-try 'refused 5' 'position 0' ledger 0 1 32 1
-try 'refused 5' 'position 2^60 + 1' ledger 1000000000000001 1 32 1
-try 'refused 5' 'no block' ledger 1 0 32 0
-try 'refused 5' '257 blocks' ledger 1 101 32 ffffffffffffffffffffffffffffffffffffffffffffffffffffffffffffffff
-try 'refused 5' 'a mark at C' ledger 1 1 32 3
+try 'refused 5' 'zeros' zeros 352
+try 'refused 5' 'position 0' ledger 0 1 1 32
+try 'refused 5' 'position 2^60 + 1' ledger 1000000000000001 1 1 32
+try 'refused 5' 'no block' ledger 1 0 0 32
+try 'refused 5' '257 blocks' ledger 1 101 "$ones$ones" 32
+try 'refused 5' 'a mark at C' ledger 1 1 3 32
 try 'refused 5' 'a reserved byte' reserved_byte
 
 # refused: 8, a ticket unmarked; 9, no digit settled
-try 'refused 8' 'no mark' ledger 1 1 32 0
+try 'refused 8' 'no mark' ledger 1 1 0 32
 try 'refused 8' 'the last row unmarked' last_row_unmarked
-try 'refused 8' 'one block of 256 unmarked' ledger 1 100 32 7fffffffffffffffffffffffffffffffffffffffffffffffffffffffffffffff
-try 'refused 9' 'total 0' ledger 1 1 0 1
-try 'refused 9' 'total 49' ledger 1 1 31 1
-try 'refused 9' 'total 2^128 - 50' ledger 1 1 ffffffffffffffffffffffffffffffce 1
+try 'refused 8' 'one block of 256 unmarked' ledger 1 100 "7${ones:1}$ones" 32
+try 'refused 9' 'total 0' ledger 1 1 1
+try 'refused 9' 'total 0 of two sums' ledger 1 1 1 "$ones" 0 0 0 0 0 1
+try 'refused 9' 'total 49' ledger 1 1 1 31
+try 'refused 9' 'total 2^128 - 50' ledger 1 1 1 ffffffffffffffffffffffffffffffce
+try 'refused 9' 'seven sums of 2^128 - 1' ledger 1 1 1 "$ones" "$ones" "$ones" "$ones" "$ones" "$ones" "$ones"
 echo "closer: $checks checks"

@@ -21,8 +21,8 @@ static void on_fault(int number, siginfo_t *info, void *context)
 {
     (void)number;
     (void)context;
-    dprintf(STDERR_FILENO, "%s, seed %" PRIu64 ", after check %" PRIu64 ": no access to %p is allowed\n", test_name, seed,
-            checks, info->si_addr);
+    dprintf(STDERR_FILENO, "%s, seed %" PRIu64 ", after check %" PRIu64 ": no access to %p is allowed\n", test_name,
+            seed, checks, info->si_addr);
     _exit(1);
 }
 
@@ -140,6 +140,11 @@ size_t wrong_size(size_t size)
     static const int steps[] = {-1, 1, -8, 8, 64};
     size_t wrong = below(4) == 0 ? below(size + 64) : size + (size_t)(int64_t)steps[below(5)];
     return wrong == size || wrong > size + 64 ? size + 1 : wrong;
+}
+
+size_t wrong_ledger_size(void)
+{
+    return below(8) == 0 ? 256 : wrong_size(BBP_LEDGER_SIZE);
 }
 
 /* Lent slices. */
@@ -284,7 +289,8 @@ void expect_huge(const uint8_t *bytes, size_t len)
     if (len > 0)
         memcpy(wanted, bytes, len);
     size_t i = first_difference(huge, wanted, PAGE);
-    CHECK(i == PAGE, "byte %zu of a slice of over 2^32 bytes is %02x and not %02x", i, huge[i % PAGE], wanted[i % PAGE]);
+    CHECK(i == PAGE, "byte %zu of a slice of over 2^32 bytes is %02x and not %02x", i, huge[i % PAGE],
+          wanted[i % PAGE]);
     memset(huge, 0, PAGE);
 }
 
@@ -362,9 +368,29 @@ void put(uint8_t *at, size_t bytes, uint64_t value)
         at[i] = (uint8_t)(value >> 8 * i);
 }
 
+void put_sum(uint8_t *at, ref_u128 sum)
+{
+    put(at, 8, (uint64_t)sum);
+    put(at + 8, 8, (uint64_t)(sum >> 64));
+}
+
+/* A lower word of zeros or ones is at the edge of a carry into the upper one. */
+ref_u128 any_sum(void)
+{
+    uint64_t upper = any(), lower = any();
+    if (below(4) == 0)
+        lower = below(2) == 0 ? UINT64_MAX : 0;
+    return SUM(upper, lower);
+}
+
+void set_row_sum(uint8_t *ledger, uint64_t row, ref_u128 sum)
+{
+    put_sum(ledger + BBP_ROW_SUM_AT(row), sum);
+}
+
 void set_mark(uint8_t *ledger, uint64_t row, uint64_t block, int marked)
 {
-    uint8_t bit = (uint8_t)(1 << block % 8), *at = ledger + 32 + 32 * row + block / 8;
+    uint8_t bit = (uint8_t)(1 << block % 8), *at = ledger + BBP_ROW_MARKS_AT(row) + block / 8;
     *at = (uint8_t)(marked ? *at | bit : *at & ~bit);
 }
 
@@ -382,12 +408,13 @@ static void put_run(uint8_t *bytes, uint64_t p, uint64_t c)
 
 void any_ledger(uint8_t *ledger, uint64_t p, uint64_t c, uint64_t chance)
 {
-    memset(ledger, 0, 256);
+    memset(ledger, 0, BBP_LEDGER_SIZE);
     put_run(ledger, p, c);
-    any_bytes(ledger + 16, 16);
-    for (uint64_t row = 0; row < 7; row++)
+    for (uint64_t row = 0; row < BBP_ROWS; row++) {
+        set_row_sum(ledger, row, any_sum());
         for (uint64_t block = 0; block < c; block++)
             set_mark(ledger, row, block, below(256) < chance);
+    }
 }
 
 void patch(uint8_t *bytes, const struct patch patches[PATCHES])
@@ -399,7 +426,8 @@ void patch(uint8_t *bytes, const struct patch patches[PATCHES])
 void make_ledger(uint8_t *ledger, const struct ledger_form *form)
 {
     any_ledger(ledger, form->p, form->c, form->marked ? 256 : 0);
-    memset(ledger + 16, 0, 16);
+    for (uint64_t row = 0; row < BBP_ROWS; row++)
+        set_row_sum(ledger, row, 0);
     patch(ledger, form->patches);
 }
 

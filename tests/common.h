@@ -30,6 +30,8 @@ uint64_t any_position_upto(uint64_t limit);
 uint64_t any_blocks(void);
 /* A size that is wrong for a slice that must have `size` bytes; at most 64 more. */
 size_t wrong_size(size_t size);
+/* A size that is wrong for a ledger, also the 256 bytes of version 1.0.0. */
+size_t wrong_ledger_size(void);
 
 /*
  * Slices lent to the engine. The bytes are copied to a place that ends at an
@@ -67,8 +69,12 @@ void require_met(const char *pairs);
 
 /* Numbers in bytes, runs and ledgers for the cases. */
 void put(uint8_t *at, size_t bytes, uint64_t value);
+#define SUM(upper, lower) ((ref_u128)(upper) << 64 | (lower))
+void put_sum(uint8_t *at, ref_u128 sum);
+ref_u128 any_sum(void);
+void set_row_sum(uint8_t *ledger, uint64_t row, ref_u128 sum);
 void set_mark(uint8_t *ledger, uint64_t row, uint64_t block, int marked);
-/* A ledger in order: random total, each ticket marked with the given chance in 256. */
+/* A ledger in order: random row sums, each ticket marked with the given chance in 256. */
 void any_ledger(uint8_t *ledger, uint64_t p, uint64_t c, uint64_t chance);
 /* Changes of some bytes: `width` bytes from `at` on become `value`. Width 0 changes nothing. */
 enum { PATCHES = 2 };
@@ -78,7 +84,8 @@ struct patch {
 };
 #define UNPATCHED {{0, 0, 0}}
 void patch(uint8_t *bytes, const struct patch patches[PATCHES]);
-/* A ledger of a case: of p, C and total 0, with no ticket or every ticket marked, then patched; lent in `len` bytes. */
+/* A ledger of a case: of p, C and sums 0, with no ticket or every ticket marked, then patched; lent in `len` bytes. */
+enum { LEDGER_ROOM = BBP_LEDGER_SIZE + 64 };
 struct ledger_form {
     size_t len;
     uint64_t p, c;

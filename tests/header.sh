@@ -1,8 +1,14 @@
 #!/usr/bin/env bash
-# header.sh DIRECTORY - the header compiles by itself, and included twice, as C99 and as C++.
+# header.sh DIRECTORY - the header compiles by itself, and included twice, as C99 and as C++; its sizes fit its places.
 set -eu
 checks=0
-printf '#include "bbp.h"\n#include "bbp.h"\nchar size[BBP_SHEET_SIZE(1792) == BBP_SHEET_MAX ? 1 : -1];\n' >"$1/header.c"
+cat >"$1/header.c" <<'END'
+#include "bbp.h"
+#include "bbp.h"
+char sheet[BBP_SHEET_SIZE(1792) == BBP_SHEET_MAX ? 1 : -1];
+char sums[BBP_ROW_SUM_AT(BBP_ROWS) == BBP_ROW_MARKS_AT(0) ? 1 : -1];
+char marks[BBP_ROW_MARKS_AT(BBP_ROWS) == BBP_LEDGER_SIZE ? 1 : -1];
+END
 cp "$1/header.c" "$1/header.cc"
 strict="-Wall -Wextra -Werror -pedantic -Iinclude -c -o /dev/null"
 for standard in c99 c11 c17; do

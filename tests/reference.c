@@ -145,11 +145,16 @@ int64_t ref_work(uint64_t p, uint64_t c, uint64_t row, uint64_t block, uint8_t *
     return ref_answer(refusals);
 }
 
-/* The ledger: p at 0, C at 8, zero bytes at 10, the total at 16, marks at 32. */
+/* The ledger: p at 0, C at 8, zero bytes at 10, the row sums at 16, marks at 128. */
 
 static const uint8_t *mark_byte(const uint8_t *ledger, uint64_t row, uint64_t block)
 {
-    return ledger + 32 + 32 * row + block / 8;
+    return ledger + 128 + 32 * row + block / 8;
+}
+
+ref_u128 ref_row_sum(const uint8_t *ledger, uint64_t row)
+{
+    return ref_load_sum(ledger + 16 + 16 * row);
 }
 
 int ref_marked(const uint8_t *ledger, uint64_t row, uint64_t block)
@@ -160,7 +165,7 @@ int ref_marked(const uint8_t *ledger, uint64_t row, uint64_t block)
 static void post_sum(uint8_t *ledger, uint64_t row, uint64_t block, const uint8_t *sum)
 {
     ledger[mark_byte(ledger, row, block) - ledger] |= (uint8_t)(1 << block % 8);
-    store_sum(ledger + 16, ref_load_sum(ledger + 16) + ref_load_sum(sum));
+    store_sum(ledger + 16 + 16 * row, ref_row_sum(ledger, row) + ref_load_sum(sum));
 }
 
 int ref_ledger_in_order(const uint8_t *ledger)
@@ -185,14 +190,14 @@ static int same_run(const uint8_t *ledger, uint64_t p, uint64_t c)
 
 ref_refusals ref_open_refusals(uint64_t p, uint64_t c, size_t ledger_len)
 {
-    return (ledger_len != 256 ? SIZE : 0u) | (run_in_range(p, c) ? 0u : RANGE);
+    return (ledger_len != REF_LEDGER_SIZE ? SIZE : 0u) | (run_in_range(p, c) ? 0u : RANGE);
 }
 
 int64_t ref_open(uint64_t p, uint64_t c, uint8_t *ledger, size_t ledger_len)
 {
     ref_refusals refusals = ref_open_refusals(p, c, ledger_len);
     if (refusals == 0) {
-        memset(ledger, 0, 256);
+        memset(ledger, 0, REF_LEDGER_SIZE);
         store(ledger, 8, p);
         store(ledger + 8, 2, c);
     }
@@ -203,13 +208,13 @@ ref_refusals ref_post_refusals(const uint8_t *ledger, size_t ledger_len, uint64_
                                uint64_t block, size_t sum_len)
 {
     ref_refusals refusals = 0;
-    if (ledger_len != 256 || sum_len != 16)
+    if (ledger_len != REF_LEDGER_SIZE || sum_len != 16)
         refusals |= SIZE;
     if (!run_in_range(p, c))
         refusals |= RANGE;
     if (!ticket_in_range(c, row, block))
         refusals |= TICKET;
-    if (ledger_len != 256)
+    if (ledger_len != REF_LEDGER_SIZE)
         return refusals;
     if (!ref_ledger_in_order(ledger))
         refusals |= LEDGER;
@@ -346,7 +351,7 @@ int64_t ref_sheet_read(const uint8_t *sheet, size_t sheet_len, uint8_t *list, si
     return (int64_t)e;
 }
 
-/* Numbers 6 and 7 of a sheet of at least 16 bytes and a ledger of 256. */
+/* Numbers 6 and 7 of a sheet of at least 16 bytes and a ledger of its size. */
 static ref_refusals posting_refusals(const uint8_t *ledger, const uint8_t *sheet, size_t sheet_len)
 {
     struct head head = head_of(sheet);
@@ -362,13 +367,13 @@ static ref_refusals posting_refusals(const uint8_t *ledger, const uint8_t *sheet
 ref_refusals ref_sheet_post_refusals(const uint8_t *ledger, size_t ledger_len, const uint8_t *sheet, size_t sheet_len)
 {
     ref_refusals refusals = 0;
-    if (ledger_len != 256 || sheet_len < 16 || sheet_len > 35856)
+    if (ledger_len != REF_LEDGER_SIZE || sheet_len < 16 || sheet_len > 35856)
         refusals |= SIZE;
     if (sheet_len >= 16)
         refusals |= content_refusals(sheet, sheet_len);
-    if (ledger_len == 256 && !ref_ledger_in_order(ledger))
+    if (ledger_len == REF_LEDGER_SIZE && !ref_ledger_in_order(ledger))
         refusals |= LEDGER;
-    if (ledger_len == 256 && sheet_len >= 16)
+    if (ledger_len == REF_LEDGER_SIZE && sheet_len >= 16)
         refusals |= posting_refusals(ledger, sheet, sheet_len);
     return refusals;
 }

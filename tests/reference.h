@@ -1,6 +1,6 @@
 /*
- * An implementation of the seven calls written from document 01 alone, for
- * comparison. It prefers the obvious to the fast: remainders by `%` on 128
+ * An implementation of the seven calls written from document 01 and slip 1 of
+ * document 02 alone, for comparison. It prefers the obvious to the fast: remainders by `%` on 128
  * bits, every condition of the refusal table evaluated by itself.
  */
 #ifndef REFERENCE_H
@@ -45,11 +45,15 @@ int64_t ref_term_exponent(uint64_t p, uint64_t row, uint64_t k);
 int ref_term_added(uint64_t row, uint64_t k);
 ref_u128 ref_term_size(uint64_t p, uint64_t row, uint64_t k);
 
+/* The ledger's bytes, in numbers of its own and not the header's. */
+enum { REF_LEDGER_SIZE = 352 };
+
 /* Little-endian numbers, and the ledger, for the closing's own file. */
 uint64_t ref_load(const uint8_t *at, size_t bytes);
 ref_u128 ref_load_sum(const uint8_t *at);
 int64_t ref_answer(ref_refusals refusals);
 int ref_ledger_in_order(const uint8_t *ledger);
 int ref_marked(const uint8_t *ledger, uint64_t row, uint64_t block);
+ref_u128 ref_row_sum(const uint8_t *ledger, uint64_t row);
 
 #endif

@@ -1,4 +1,4 @@
-/* The closing of document 01, apart from the other calls. */
+/* The closing of document 01 and slip 1 of document 02, apart from the other calls. */
 #include "reference.h"
 
 enum { SIZE = 1 << 1, LEDGER = 1 << 5, UNMARKED = 1 << 8, UNSETTLED = 1 << 9 };
@@ -48,14 +48,23 @@ static int settled_digits(struct whole low, struct whole high)
     return 0;
 }
 
+/* The sum of the seven row sums modulo 2^128 (document 02, slip 1). */
+static ref_u128 total_of(const uint8_t *ledger)
+{
+    ref_u128 total = 0;
+    for (uint64_t row = 0; row < 7; row++)
+        total += ref_row_sum(ledger, row);
+    return total;
+}
+
 static struct whole low_of(const uint8_t *ledger)
 {
-    return minus(ref_load_sum(ledger + 16), subtracted_terms(ref_term_count(ref_load(ledger, 8))) + 1);
+    return minus(total_of(ledger), subtracted_terms(ref_term_count(ref_load(ledger, 8))) + 1);
 }
 
 static struct whole high_of(const uint8_t *ledger)
 {
-    return plus(ref_load_sum(ledger + 16), added_terms(ref_term_count(ref_load(ledger, 8))) + 1);
+    return plus(total_of(ledger), added_terms(ref_term_count(ref_load(ledger, 8))) + 1);
 }
 
 static int all_marked(const uint8_t *ledger)
@@ -71,9 +80,9 @@ static int all_marked(const uint8_t *ledger)
 ref_refusals ref_close_refusals(const uint8_t *ledger, size_t ledger_len, size_t digits_len)
 {
     ref_refusals refusals = 0;
-    if (ledger_len != 256 || digits_len != 32)
+    if (ledger_len != REF_LEDGER_SIZE || digits_len != 32)
         refusals |= SIZE;
-    if (ledger_len != 256)
+    if (ledger_len != REF_LEDGER_SIZE)
         return refusals;
     if (!ref_ledger_in_order(ledger))
         refusals |= LEDGER;

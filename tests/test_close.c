@@ -1,4 +1,4 @@
-/* bbp_close against the reference, and against the closings of vectors.txt. */
+/* bbp_close against the reference, and against closings whose answers stand here and in vectors.txt. */
 #include "common.h"
 #include "vectors.h"
 
@@ -7,19 +7,40 @@
 #include <string.h>
 
 static struct {
-    uint8_t ledger[320], digits[96];
+    uint8_t ledger[LEDGER_ROOM], digits[96];
     size_t ledger_len, digits_len;
 } t;
 
-static void put_total(ref_u128 total)
+/*
+ * A spread of a total over the row sums: the `rows` rows after `last` (row 0
+ * after row 6) have the sum `each`, `last` has what is then left of the total
+ * modulo 2^128, and the others have 0.
+ */
+struct spread {
+    const char *what;
+    uint64_t rows;
+    ref_u128 each;
+};
+
+static void put_spread(const struct spread *spread, uint64_t last, ref_u128 total)
 {
-    put(t.ledger + 16, 8, (uint64_t)total);
-    put(t.ledger + 24, 8, (uint64_t)(total >> 64));
+    for (uint64_t i = 1; i < BBP_ROWS; i++)
+        set_row_sum(t.ledger, (last + i) % BBP_ROWS, i <= spread->rows ? spread->each : 0);
+    set_row_sum(t.ledger, last, total - spread->rows * spread->each);
 }
 
-static ref_u128 any_total(void)
+static const struct spread in_one_row = {"in one row", 0, 0};
+
+/* Random row sums that add up to the total. */
+static void put_total(ref_u128 total)
 {
-    return (ref_u128)any() << 64 | any();
+    uint64_t last = below(BBP_ROWS);
+    for (uint64_t i = 1; i < BBP_ROWS; i++) {
+        ref_u128 sum = below(4) == 0 ? 0 : any_sum();
+        set_row_sum(t.ledger, (last + i) % BBP_ROWS, sum);
+        total -= sum;
+    }
+    set_row_sum(t.ledger, last, total);
 }
 
 static void full_ledger(uint64_t p, uint64_t c)
@@ -27,14 +48,14 @@ static void full_ledger(uint64_t p, uint64_t c)
     any_bytes(t.ledger, sizeof t.ledger);
     any_bytes(t.digits, sizeof t.digits);
     any_ledger(t.ledger, p, c, 256);
-    t.ledger_len = 256;
+    t.ledger_len = BBP_LEDGER_SIZE;
     t.digits_len = 32;
 }
 
 static void prepare(void)
 {
     full_ledger(any_position(), any_blocks());
-    put_total((any_total() >> 6) + ((ref_u128)1 << 120));
+    put_total((any_sum() >> 6) + ((ref_u128)1 << 120));
 }
 
 static int unmark_one(void)
@@ -66,7 +87,7 @@ static int unsettled(void)
 static int near_edge(void)
 {
     uint64_t bound = 7 * (ref_term_count(ref_load(t.ledger, 8)) / 2), d = 1 + below(32);
-    ref_u128 edge = any_total() >> (128 - 4 * d) << (128 - 4 * d);
+    ref_u128 edge = any_sum() >> (128 - 4 * d) << (128 - 4 * d);
     ref_u128 step = below(4) == 0 ? below(64) : bound + below(10) - 3;
     put_total(below(2) == 0 ? edge + step : edge - step);
     return UNSURE;
@@ -75,19 +96,19 @@ static int near_edge(void)
 static int damage(int kind)
 {
     switch (kind) {
-    case 0: t.ledger_len = wrong_size(256); return 1;
+    case 0: t.ledger_len = wrong_ledger_size(); return 1;
     case 1: t.ledger_len = 0; return 1;
     case 2: t.digits_len = wrong_size(32); return 1;
     case 3: t.digits_len = 0; return 1;
     case 4:
     case 5: spoil_ledger(t.ledger); return 5;
-    case 6: any_bytes(t.ledger, 256); return UNSURE;
-    case 7: t.ledger[below(256)] ^= (uint8_t)(1 << below(8)); return UNSURE;
+    case 6: any_bytes(t.ledger, BBP_LEDGER_SIZE); return UNSURE;
+    case 7: t.ledger[below(BBP_LEDGER_SIZE)] ^= (uint8_t)(1 << below(8)); return UNSURE;
     case 8: return unmark_one();
     case 9: return open_ledger(any_chance());
     case 10: return unsettled();
     case 11: return near_edge();
-    default: put_total(any_total()); return UNSURE;
+    default: put_total(any_sum()); return UNSURE;
     }
 }
 
@@ -99,8 +120,9 @@ static int64_t compare(void)
     const uint8_t *ledger = lend_input(0, t.ledger, t.ledger_len);
     uint8_t *digits = lend(1, t.digits, t.digits_len);
     int64_t answer = bbp_close(ledger, t.ledger_len, digits, t.digits_len);
-    CHECK(answer == wanted_answer, "close p %" PRIu64 " C %" PRIu64 " lengths %zu %zu: answer %" PRId64 ", not %" PRId64,
-          ref_load(t.ledger, 8), ref_load(t.ledger + 8, 2), t.ledger_len, t.digits_len, answer, wanted_answer);
+    CHECK(answer == wanted_answer,
+          "close p %" PRIu64 " C %" PRIu64 " lengths %zu %zu: answer %" PRId64 ", not %" PRId64, ref_load(t.ledger, 8),
+          ref_load(t.ledger + 8, 2), t.ledger_len, t.digits_len, answer, wanted_answer);
     expect_kept(0, "close, the ledger");
     expect(1, wanted, "close, the digits");
     free(ledger_copy);
@@ -108,17 +130,88 @@ static int64_t compare(void)
     return answer;
 }
 
-/* A closing of vectors.txt: its answer and digits are not the reference's. */
-static void compare_vector(const struct closing_vector *vector)
+/* The full ledger closes with this answer and these digits, which are not the reference's. */
+static void expect_closing(int64_t answer, const char *wanted, const char *what, const char *how)
 {
     uint8_t digits[32];
-    full_ledger(vector->p, any_blocks());
-    put_total(vector->total);
-    CHECK(compare() == vector->answer, "closing of vectors.txt, p %" PRIu64, vector->p);
+    uint64_t p = ref_load(t.ledger, 8);
+    CHECK(compare() == answer, "p %" PRIu64 ", %s, %s: the answer", p, what, how);
     memcpy(digits, t.digits, 32);
-    bbp_close(t.ledger, 256, digits, 32);
-    CHECK(vector->answer < 0 || memcmp(digits, vector->digits, (size_t)vector->answer) == 0,
-          "digits of vectors.txt, p %" PRIu64, vector->p);
+    bbp_close(t.ledger, BBP_LEDGER_SIZE, digits, 32);
+    CHECK(answer < 0 || memcmp(digits, wanted, (size_t)answer) == 0, "p %" PRIu64 ", %s, %s: the digits", p, what, how);
+}
+
+/* Ways in which the row sums pass 2^128, and their lower words 2^64. */
+static const struct spread spreads[] = {
+    {"one row of 2^128 - 1", 1, SUM(UINT64_MAX, UINT64_MAX)},
+    {"six rows of 2^128 - 1", 6, SUM(UINT64_MAX, UINT64_MAX)},
+    {"one row of 2^127", 1, SUM(UINT64_C(1) << 63, 0)},
+    {"six rows of 2^127", 6, SUM(UINT64_C(1) << 63, 0)},
+    {"one row of 2^64 - 1", 1, UINT64_MAX},
+    {"six rows of 2^64 - 1", 6, UINT64_MAX},
+    {"two rows of 2^63", 2, UINT64_C(1) << 63},
+    {"six rows of 5", 6, 5},
+};
+
+/* A total in each row in turn, in each spread turned over all rows, and in random spreads. */
+static void close_everywhere(ref_u128 total, int64_t answer, const char *digits, const char *what)
+{
+    for (uint64_t last = 0; last < BBP_ROWS; last++) {
+        put_spread(&in_one_row, last, total);
+        expect_closing(answer, digits, what, in_one_row.what);
+        for (size_t i = 0; i < sizeof spreads / sizeof spreads[0]; i++) {
+            put_spread(&spreads[i], last, total);
+            expect_closing(answer, digits, what, spreads[i].what);
+        }
+        put_total(total);
+        expect_closing(answer, digits, what, "in a random spread");
+    }
+}
+
+static void compare_vector(const struct closing_vector *vector)
+{
+    full_ledger(vector->p, any_blocks());
+    close_everywhere(vector->total, vector->answer, vector->digits, "of vectors.txt");
+}
+
+#define ZEROS_30 "000000000000000000000000000000"
+#define FS_30 "FFFFFFFFFFFFFFFFFFFFFFFFFFFFFF"
+#define EIGHTS SUM(UINT64_C(0x8888888888888888), UINT64_C(0x8888888888888888))
+
+/* Full ledgers: the marked closings of document 01 at p = 1, and others. */
+static const struct {
+    const char *what;
+    uint64_t p;
+    ref_u128 total;
+    int64_t answer;
+    const char *digits;
+} closings[] = {
+    {"total 0", 1, 0, -9, ""},
+    {"total 49", 1, 49, -9, ""},
+    {"total 50", 1, 50, 30, ZEROS_30},
+    {"total 2^128 - 51", 1, SUM(UINT64_MAX, UINT64_MAX - 50), 30, FS_30},
+    {"total 2^128 - 50", 1, SUM(UINT64_MAX, UINT64_MAX - 49), -9, ""},
+    {"total 2^128 - 7", 1, SUM(UINT64_MAX, UINT64_MAX - 6), -9, ""},
+    {"total 2^128 - 1", 1, SUM(UINT64_MAX, UINT64_MAX), -9, ""},
+    {"total 2^127", 1, SUM(UINT64_C(1) << 63, 0), -9, ""},
+    {"total 2^124", 1, SUM(UINT64_C(1) << 60, 0), -9, ""},
+    {"total 2^124 + 2^120", 1, SUM((UINT64_C(1) << 60) + (UINT64_C(1) << 56), 0), 1, "1"},
+    {"total 54", 4, 54, -9, ""},
+    {"total 55", 4, 55, 30, ZEROS_30},
+    {"total 2^128 - 53", 4, SUM(UINT64_MAX, UINT64_MAX - 52), 30, FS_30},
+    {"total 2^128 - 52", 4, SUM(UINT64_MAX, UINT64_MAX - 51), -9, ""},
+    {"total 2^128 - 7", 1000000, SUM(UINT64_MAX, UINT64_MAX - 6), -9, ""},
+    {"total 888..", 1000000, EIGHTS, 26, "88888888888888888888888888"},
+    {"total 888..", BBP_MAX_POSITION - 1, EIGHTS, 16, "8888888888888888"},
+    {"total 888..", BBP_MAX_POSITION, EIGHTS, 16, "8888888888888888"},
+};
+
+static void try_closings(void)
+{
+    for (size_t i = 0; i < sizeof closings / sizeof closings[0]; i++) {
+        full_ledger(closings[i].p, any_blocks());
+        close_everywhere(closings[i].total, closings[i].answer, closings[i].digits, closings[i].what);
+    }
 }
 
 static int64_t close_total(ref_u128 total)
@@ -138,8 +231,10 @@ static void every_edge(void)
     }
 }
 
-#define TOTAL(upper, lower) {256, 1, 1, 1, {{16, 8, lower}, {24, 8, upper}}}
-#define FIFTY(at, value) {256, 1, 1, 1, {{16, 8, 50}, {at, 1, value}}}
+/* A full ledger with total 50, and one byte of it changed. */
+#define FIFTY(c, at, value) {BBP_LEDGER_SIZE, 1, c, 1, {{BBP_ROW_SUM_AT(0), 8, 50}, {at, 1, value}}}
+#define WHOLE {BBP_LEDGER_SIZE, 1, 1, 1, {{BBP_ROW_SUM_AT(0), 8, 50}}}
+#define FRESH(p, c) {BBP_LEDGER_SIZE, p, c, 0, UNPATCHED}
 
 static const struct {
     const char *what;
@@ -147,39 +242,35 @@ static const struct {
     struct ledger_form ledger;
     size_t digits_len;
 } cases[] = {
-    {"ledger of 255 bytes", -1, {255, 1, 1, 0, UNPATCHED}, 32},
-    {"ledger of 257 bytes", -1, {257, 1, 1, 0, UNPATCHED}, 32},
-    {"all marked, ledger of 255 bytes", -1, {255, 1, 1, 1, {{16, 8, 50}}}, 32},
-    {"digits of 31 bytes", -1, TOTAL(0, 50), 31},
-    {"digits of 33 bytes", -1, TOTAL(0, 50), 33},
-    {"digits of 31 bytes, ledger of zeros", -1, {256, 0, 0, 0, UNPATCHED}, 31},
-    {"ledger's p 0", -5, FIFTY(0, 0), 32},
-    {"ledger's p 2^60 + 1", -5, FIFTY(7, 16), 32},
-    {"ledger's C 0", -5, FIFTY(8, 0), 32},
-    {"ledger's C 257", -5, FIFTY(9, 1), 32},
-    {"reserved byte 10", -5, FIFTY(10, 1), 32},
-    {"reserved byte 15", -5, FIFTY(15, 128), 32},
-    {"mark at C", -5, FIFTY(32, 3), 32},
-    {"mark at C alone", -5, FIFTY(32, 2), 32},
-    {"row 6, mark at 255", -5, FIFTY(255, 128), 32},
-    {"ledger of zeros", -5, {256, 0, 0, 0, UNPATCHED}, 32},
-    {"fresh ledger", -8, {256, 1, 1, 0, UNPATCHED}, 32},
-    {"fresh ledger, p 2^60, C 256", -8, {256, BBP_MAX_POSITION, 256, 0, UNPATCHED}, 32},
-    {"row 0 unmarked", -8, FIFTY(32, 0), 32},
-    {"row 6 unmarked", -8, FIFTY(224, 0), 32},
-    {"C 2, block 0 of each row marked", -8, FIFTY(8, 2), 32},
-    {"C 256, block 0 of each row marked", -8, {256, 1, 1, 1, {{16, 8, 50}, {8, 2, 256}}}, 32},
-    {"C 256, row 6, block 255 unmarked", -8, {256, 1, 256, 1, {{16, 8, 50}, {255, 1, 127}}}, 32},
-    {"C 256, all marked", 30, {256, 1, 256, 1, {{16, 8, 50}}}, 32},
-    {"total 0", -9, TOTAL(0, 0), 32},
-    {"total 49", -9, TOTAL(0, 49), 32},
-    {"total 50", 30, TOTAL(0, 50), 32},
-    {"total 2^128 - 51", 30, TOTAL(UINT64_MAX, UINT64_MAX - 50), 32},
-    {"total 2^128 - 50", -9, TOTAL(UINT64_MAX, UINT64_MAX - 49), 32},
-    {"total 2^128 - 1", -9, TOTAL(UINT64_MAX, UINT64_MAX), 32},
-    {"total 2^127", -9, TOTAL(UINT64_C(1) << 63, 0), 32},
-    {"total 2^124 + 2^120", 1, TOTAL((UINT64_C(1) << 60) + (UINT64_C(1) << 56), 0), 32},
-    {"total 2^124", -9, TOTAL(UINT64_C(1) << 60, 0), 32},
+    {"ledger of 255 bytes", -1, {255, 1, 1, 1, {{BBP_ROW_SUM_AT(0), 8, 50}}}, 32},
+    {"ledger of 256 bytes", -1, {256, 1, 1, 1, {{BBP_ROW_SUM_AT(0), 8, 50}}}, 32},
+    {"ledger of 351 bytes", -1, {351, 1, 1, 1, {{BBP_ROW_SUM_AT(0), 8, 50}}}, 32},
+    {"ledger of 353 bytes", -1, {353, 1, 1, 1, {{BBP_ROW_SUM_AT(0), 8, 50}}}, 32},
+    {"fresh ledger of 256 bytes, as version 1.0.0 had it", -1, {256, 1, 1, 0, UNPATCHED}, 32},
+    {"ledger of 351 bytes, not marked", -1, {351, 1, 1, 0, UNPATCHED}, 32},
+    {"digits of 31 bytes", -1, WHOLE, 31},
+    {"digits of 33 bytes", -1, WHOLE, 33},
+    {"digits of 31 bytes, ledger of zeros", -1, FRESH(0, 0), 31},
+    {"ledger's p 0", -5, FIFTY(1, 0, 0), 32},
+    {"ledger's p 2^60 + 1", -5, FIFTY(1, 7, 16), 32},
+    {"ledger's C 0", -5, FIFTY(1, 8, 0), 32},
+    {"ledger's C 257", -5, FIFTY(1, 9, 1), 32},
+    {"reserved byte 10", -5, FIFTY(1, 10, 1), 32},
+    {"reserved byte 15", -5, FIFTY(1, 15, 128), 32},
+    {"mark at C", -5, FIFTY(1, BBP_ROW_MARKS_AT(0), 3), 32},
+    {"mark at C alone", -5, FIFTY(1, BBP_ROW_MARKS_AT(0), 2), 32},
+    {"row 6, mark at 255", -5, FIFTY(1, BBP_ROW_MARKS_AT(6) + 31, 128), 32},
+    {"ledger of zeros", -5, FRESH(0, 0), 32},
+    {"fresh ledger", -8, FRESH(1, 1), 32},
+    {"fresh ledger, p 2^60, C 256", -8, FRESH(BBP_MAX_POSITION, 256), 32},
+    {"not marked, but a sum in row 6", -8, {BBP_LEDGER_SIZE, 1, 1, 0, {{BBP_ROW_SUM_AT(6), 8, 50}}}, 32},
+    {"row 0 unmarked", -8, FIFTY(1, BBP_ROW_MARKS_AT(0), 0), 32},
+    {"row 6 unmarked", -8, FIFTY(1, BBP_ROW_MARKS_AT(6), 0), 32},
+    {"C 2, block 0 of each row marked", -8, FIFTY(1, 8, 2), 32},
+    {"C 256, block 0 of each row marked", -8,
+     {BBP_LEDGER_SIZE, 1, 1, 1, {{BBP_ROW_SUM_AT(0), 8, 50}, {8, 2, 256}}}, 32},
+    {"C 256, row 6, block 255 unmarked", -8, FIFTY(256, BBP_ROW_MARKS_AT(6) + 31, 127), 32},
+    {"C 256, all marked", 30, {BBP_LEDGER_SIZE, 1, 256, 1, {{BBP_ROW_SUM_AT(0), 8, 50}}}, 32},
 };
 
 static void try_cases(void)
@@ -193,13 +284,35 @@ static void try_cases(void)
     }
 }
 
+static void every_size(void)
+{
+    for (size_t len = 0; len <= LEDGER_ROOM; len++) {
+        full_ledger(1, any_blocks());
+        put_total(50);
+        t.ledger_len = len;
+        CHECK(compare() == (len == BBP_LEDGER_SIZE ? 30 : -1), "a ledger of %zu bytes", len);
+    }
+}
+
+/* The full ledger of p = 1 and C = 1 with total 50 as version 1.0.0 kept it: the total at 16, marks from 32 on. */
+static void ledger_of_version_1(void)
+{
+    full_ledger(1, 1);
+    memset(t.ledger + 16, 0, 240);
+    t.ledger[16] = 50;
+    for (int row = 0; row < 7; row++)
+        t.ledger[32 + 32 * row] = 1;
+    t.ledger_len = 256;
+    CHECK(compare() == -1, "a full ledger of version 1.0.0");
+}
+
 static void null_and_huge_examples(void)
 {
     full_ledger(1, 1);
     CHECK(bbp_close(NULL, 0, t.digits, 32) == -1, "an empty ledger");
-    CHECK(bbp_close(t.ledger, 256, NULL, 0) == -1, "no digits");
-    CHECK(bbp_close(t.ledger, 256, lend_huge(), huge_length(32)) == -1, "digits of 2^32 + 32 bytes");
-    CHECK(bbp_close(lend_huge(), huge_length(256), t.digits, 32) == -1, "a ledger of 2^32 + 256 bytes");
+    CHECK(bbp_close(t.ledger, 352, NULL, 0) == -1, "no digits");
+    CHECK(bbp_close(t.ledger, 352, lend_huge(), huge_length(32)) == -1, "digits of 2^32 + 32 bytes");
+    CHECK(bbp_close(lend_huge(), huge_length(352), t.digits, 32) == -1, "a ledger of 2^32 + 352 bytes");
     expect_huge_kept();
 }
 
@@ -219,7 +332,10 @@ int main(int argc, char **argv)
     static const struct suite suite = {prepare, damage, 13, compare};
     start("close", argc, argv);
     try_cases();
+    every_size();
+    ledger_of_version_1();
     null_and_huge_examples();
+    try_closings();
     CHECK(each_closing(compare_vector) > 100, "vectors.txt has too few closings");
     every_edge();
     one_unmarked(1);

@@ -1,7 +1,8 @@
 /*
  * Lists of posts of both kinds from an opening on, against a plain ledger: a
- * set of tickets and a total, with no bytes of a ledger (document 01, The
- * ledger). After each post the 256 bytes are compared with what it holds.
+ * set of tickets and seven row sums, with no bytes of a ledger (document 01,
+ * The ledger; document 02, slip 1). After each post the 352 bytes are compared
+ * with what it holds.
  */
 #include "common.h"
 
@@ -10,36 +11,35 @@
 
 static struct {
     uint64_t p, c;
-    uint8_t taken[7][256];
-    ref_u128 total;
+    uint8_t taken[BBP_ROWS][256];
+    ref_u128 sums[BBP_ROWS];
 } plain;
 
-static uint8_t ledger[256];
+static uint8_t ledger[BBP_LEDGER_SIZE];
 
 static void plain_bytes(uint8_t *bytes)
 {
-    memset(bytes, 0, 256);
+    memset(bytes, 0, BBP_LEDGER_SIZE);
     put(bytes, 8, plain.p);
     put(bytes + 8, 2, plain.c);
-    put(bytes + 16, 8, (uint64_t)plain.total);
-    put(bytes + 24, 8, (uint64_t)(plain.total >> 64));
-    for (uint64_t row = 0; row < 7; row++)
+    for (uint64_t row = 0; row < BBP_ROWS; row++) {
+        set_row_sum(bytes, row, plain.sums[row]);
         for (uint64_t block = 0; block < 256; block++)
-            if (plain.taken[row][block])
-                bytes[32 + 32 * row + block / 8] |= (uint8_t)(1 << block % 8);
+            set_mark(bytes, row, block, plain.taken[row][block]);
+    }
 }
 
 static void compare_bytes(const char *after)
 {
-    uint8_t bytes[256];
+    uint8_t bytes[BBP_LEDGER_SIZE];
     plain_bytes(bytes);
-    CHECK(memcmp(bytes, ledger, 256) == 0, "the ledger is not the plain ledger after %s", after);
+    CHECK(memcmp(bytes, ledger, sizeof ledger) == 0, "the ledger is not the plain ledger after %s", after);
 }
 
 static void take(uint64_t row, uint64_t block, const uint8_t *sum)
 {
     plain.taken[row][block] = 1;
-    plain.total += ref_load_sum(sum);
+    plain.sums[row] += ref_load_sum(sum);
 }
 
 /* The plain ledger's answer to a ticket in range. */
@@ -58,7 +58,8 @@ static void post_one(void)
     if (below(10) == 0 && c < 256)
         c++;
     int wanted = plain_answer(p, c, row, block);
-    CHECK(bbp_post(ledger, 256, p, c, row, block, sum, 16) == wanted, "post: the answer is not the plain ledger's");
+    CHECK(bbp_post(ledger, sizeof ledger, p, c, row, block, sum, 16) == wanted,
+          "post: the answer is not the plain ledger's");
     if (wanted == 0)
         take(row, block, sum);
     compare_bytes("a post");
@@ -67,10 +68,11 @@ static void post_one(void)
 static void post_out_of_table(void)
 {
     uint8_t sum[16] = {0};
-    CHECK(bbp_post(ledger, 256, plain.p, plain.c, 7, 0, sum, 16) == -4, "row 7");
-    CHECK(bbp_post(ledger, 256, plain.p, plain.c, 0, plain.c, sum, 16) == -4, "block C");
-    CHECK(bbp_post(ledger, 256, 0, plain.c, 0, 0, sum, 16) == -2, "p = 0");
-    CHECK(bbp_post(ledger, 256, plain.p, plain.c, 0, 0, sum, 15) == -1, "a sum of 15 bytes");
+    CHECK(bbp_post(ledger, sizeof ledger, plain.p, plain.c, 7, 0, sum, 16) == -4, "row 7");
+    CHECK(bbp_post(ledger, sizeof ledger, plain.p, plain.c, 0, plain.c, sum, 16) == -4, "block C");
+    CHECK(bbp_post(ledger, sizeof ledger, 0, plain.c, 0, 0, sum, 16) == -2, "p = 0");
+    CHECK(bbp_post(ledger, sizeof ledger, plain.p, plain.c, 0, 0, sum, 15) == -1, "a sum of 15 bytes");
+    CHECK(bbp_post(ledger, 256, plain.p, plain.c, 0, 0, sum, 16) == -1, "a ledger of 256 bytes");
     compare_bytes("posts out of the table");
 }
 
@@ -89,7 +91,8 @@ static void post_sheet(uint64_t chance)
     size_t e = any_list(list, plain.c, chance);
     size_t len = any_sheet(sheet, p, plain.c, list, e);
     int wanted = sheet_answer(p, list, e);
-    CHECK(bbp_sheet_post(ledger, 256, sheet, len) == wanted, "sheet post: the answer is not the plain ledger's");
+    CHECK(bbp_sheet_post(ledger, sizeof ledger, sheet, len) == wanted,
+          "sheet post: the answer is not the plain ledger's");
     for (size_t i = 0; wanted == 0 && i < e; i++)
         take(list[2 * i + 1], list[2 * i], sheet + 16 + 4 * e + 16 * i);
     compare_bytes("a sheet post");
@@ -100,8 +103,8 @@ static void one_list(void)
     memset(&plain, 0, sizeof plain);
     plain.p = any_position();
     plain.c = any_blocks();
-    any_bytes(ledger, 256);
-    CHECK(bbp_open(plain.p, plain.c, ledger, 256) == 0, "opening is refused");
+    any_bytes(ledger, sizeof ledger);
+    CHECK(bbp_open(plain.p, plain.c, ledger, sizeof ledger) == 0, "opening is refused");
     compare_bytes("opening");
     for (uint64_t posts = below(200); posts > 0; posts--)
         switch (below(8)) {

@@ -3,10 +3,11 @@
 
 #include <inttypes.h>
 #include <stdlib.h>
+#include <string.h>
 
 static struct {
     uint64_t p, c;
-    uint8_t ledger[352]; /* what is there before the call */
+    uint8_t ledger[LEDGER_ROOM]; /* what is there before the call */
     size_t ledger_len;
 } t;
 
@@ -15,15 +16,15 @@ static void prepare(void)
     any_bytes(t.ledger, sizeof t.ledger);
     t.p = any_position();
     t.c = any_blocks();
-    t.ledger_len = 256;
+    t.ledger_len = BBP_LEDGER_SIZE;
 }
 
 static int damage(int kind)
 {
     switch (kind) {
-    case 0: t.ledger_len = wrong_size(256); return 1;
+    case 0: t.ledger_len = wrong_ledger_size(); return 1;
     case 1: t.ledger_len = 0; return 1;
-    case 2: t.ledger_len = 352; return 1;
+    case 2: t.ledger_len = 256; return 1;
     case 3: t.p = bad_position(); return 2;
     default: t.c = bad_blocks(); return 2;
     }
@@ -54,10 +55,10 @@ static void every_block_count(void)
 
 static void every_size(void)
 {
-    for (size_t len = 0; len <= 352; len++) {
+    for (size_t len = 0; len <= LEDGER_ROOM; len++) {
         prepare();
         t.ledger_len = len;
-        CHECK(compare() == (len == 256 ? 0 : -1), "a ledger of %zu bytes", len);
+        CHECK(compare() == (len == BBP_LEDGER_SIZE ? 0 : -1), "a ledger of %zu bytes", len);
     }
 }
 
@@ -67,19 +68,21 @@ static const struct {
     uint64_t p, c;
     size_t ledger_len;
 } cases[] = {
-    {"ledger of 255 bytes", -1, 1, 1, 255},
-    {"ledger of 257 bytes", -1, 1, 1, 257},
-    {"ledger of 255 bytes, p 0", -1, 0, 1, 255},
-    {"ledger of 257 bytes, C 257", -1, 1, 257, 257},
-    {"p 0", -2, 0, 1, 256},
-    {"p 2^60 + 1", -2, BBP_MAX_POSITION + 1, 1, 256},
-    {"p 2^64 - 1", -2, UINT64_MAX, 1, 256},
-    {"C 0", -2, 1, 0, 256},
-    {"C 257", -2, 1, 257, 256},
-    {"C 65,537", -2, 1, 65537, 256},
-    {"p 1, C 1", 0, 1, 1, 256},
-    {"p 1, C 3", 0, 1, 3, 256},
-    {"p 2^60, C 256", 0, BBP_MAX_POSITION, 256, 256},
+    {"ledger of 256 bytes, as version 1.0.0 had it", -1, 1, 1, 256},
+    {"ledger of 351 bytes", -1, 1, 1, 351},
+    {"ledger of 353 bytes", -1, 1, 1, 353},
+    {"ledger of 256 bytes, p 0", -1, 0, 1, 256},
+    {"ledger of 351 bytes, p 0", -1, 0, 1, 351},
+    {"ledger of 353 bytes, C 257", -1, 1, 257, 353},
+    {"p 0", -2, 0, 1, BBP_LEDGER_SIZE},
+    {"p 2^60 + 1", -2, BBP_MAX_POSITION + 1, 1, BBP_LEDGER_SIZE},
+    {"p 2^64 - 1", -2, UINT64_MAX, 1, BBP_LEDGER_SIZE},
+    {"C 0", -2, 1, 0, BBP_LEDGER_SIZE},
+    {"C 257", -2, 1, 257, BBP_LEDGER_SIZE},
+    {"C 65,537", -2, 1, 65537, BBP_LEDGER_SIZE},
+    {"p 1, C 1", 0, 1, 1, BBP_LEDGER_SIZE},
+    {"p 1, C 3", 0, 1, 3, BBP_LEDGER_SIZE},
+    {"p 2^60, C 256", 0, BBP_MAX_POSITION, 256, BBP_LEDGER_SIZE},
 };
 
 static void try_cases(void)
@@ -95,18 +98,32 @@ static void try_cases(void)
 static void open_over_ledgers(void)
 {
     static const struct ledger_form before[] = {
-        {256, 0, 0, 0, UNPATCHED}, {256, 2, 3, 0, UNPATCHED}, {256, BBP_MAX_POSITION, 256, 1, UNPATCHED}};
+        {BBP_LEDGER_SIZE, 0, 0, 0, UNPATCHED},
+        {BBP_LEDGER_SIZE, 2, 3, 0, UNPATCHED},
+        {BBP_LEDGER_SIZE, BBP_MAX_POSITION, 256, 1, UNPATCHED},
+    };
     for (int i = 0; i < 3; i++) {
-        t.p = 2, t.c = 3, t.ledger_len = 256;
+        t.p = 2, t.c = 3, t.ledger_len = before[i].len;
         make_ledger(t.ledger, &before[i]);
         CHECK(compare() == 0, "opening over a ledger");
+    }
+}
+
+/* Opening over one sum that is not 0, each in turn: p, C and zeros are left. */
+static void open_over_each_sum(void)
+{
+    uint8_t fresh[BBP_LEDGER_SIZE] = {2, [8] = 3}, ledger[BBP_LEDGER_SIZE] = {0};
+    for (uint64_t row = 0; row < BBP_ROWS; row++) {
+        memset(ledger + BBP_ROW_SUM_AT(row), 0xFF, BBP_SUM_SIZE);
+        CHECK(bbp_open(2, 3, ledger, sizeof ledger) == 0, "opening over a sum of row %" PRIu64, row);
+        CHECK(memcmp(ledger, fresh, sizeof ledger) == 0, "opening over a sum of row %" PRIu64 " leaves a byte", row);
     }
 }
 
 static void null_and_huge_examples(void)
 {
     CHECK(bbp_open(1, 1, NULL, 0) == -1, "an empty ledger");
-    CHECK(bbp_open(1, 1, lend_huge(), huge_length(256)) == -1, "a ledger of 2^32 + 256 bytes");
+    CHECK(bbp_open(1, 1, lend_huge(), huge_length(BBP_LEDGER_SIZE)) == -1, "a ledger of 2^32 + 352 bytes");
     expect_huge_kept();
 }
 
@@ -116,6 +133,7 @@ int main(int argc, char **argv)
     start("open", argc, argv);
     try_cases();
     open_over_ledgers();
+    open_over_each_sum();
     null_and_huge_examples();
     every_block_count();
     every_size();

@@ -6,17 +6,10 @@
 #include <string.h>
 
 static struct {
-    uint8_t ledger[320], sum[96];
+    uint8_t ledger[LEDGER_ROOM], sum[96];
     size_t ledger_len, sum_len;
     uint64_t p, c, row, block;
 } t;
-
-static void any_sum(uint8_t *sum)
-{
-    any_bytes(sum, 16);
-    if (below(4) == 0)
-        memset(sum, below(2) == 0 ? 0xFF : 0, 8);
-}
 
 static void prepare(void)
 {
@@ -28,9 +21,8 @@ static void prepare(void)
     any_bytes(t.sum, sizeof t.sum);
     any_ledger(t.ledger, t.p, t.c, any_chance());
     set_mark(t.ledger, t.row, t.block, 0);
-    any_sum(t.ledger + 16);
-    any_sum(t.sum);
-    t.ledger_len = 256;
+    put_sum(t.sum, any_sum());
+    t.ledger_len = BBP_LEDGER_SIZE;
     t.sum_len = 16;
 }
 
@@ -62,7 +54,7 @@ static int mark_ticket(void)
 static int damage(int kind)
 {
     switch (kind) {
-    case 0: t.ledger_len = wrong_size(256); return 1;
+    case 0: t.ledger_len = wrong_ledger_size(); return 1;
     case 1: t.ledger_len = 0; return 1;
     case 2: t.sum_len = wrong_size(16); return 1;
     case 3: t.sum_len = 0; return 1;
@@ -74,8 +66,8 @@ static int damage(int kind)
     case 9: t.block = wide_number(below(256)); return 4;
     case 10:
     case 11: spoil_ledger(t.ledger); return 5;
-    case 12: any_bytes(t.ledger, 256); return UNSURE;
-    case 13: t.ledger[below(256)] ^= (uint8_t)(1 << below(8)); return UNSURE;
+    case 12: any_bytes(t.ledger, BBP_LEDGER_SIZE); return UNSURE;
+    case 13: t.ledger[below(BBP_LEDGER_SIZE)] ^= (uint8_t)(1 << below(8)); return UNSURE;
     case 14: return other_position();
     case 15: return other_count();
     default: return mark_ticket();
@@ -110,20 +102,73 @@ static void every_ticket(uint64_t c)
 {
     prepare();
     t.c = c;
-    memset(t.ledger, 0, 256);
+    memset(t.ledger, 0, BBP_LEDGER_SIZE);
     put(t.ledger, 8, t.p);
     put(t.ledger + 8, 2, c);
     for (t.row = 0; t.row < 7; t.row++)
         for (t.block = 0; t.block < c; t.block++) {
-            any_sum(t.sum);
+            put_sum(t.sum, any_sum());
             CHECK(compare() == 0, "a ticket that is not marked is refused");
             CHECK(compare() == -7, "a ticket that is marked is taken");
         }
 }
 
-#define FRESH(c) {256, 1, c, 0, UNPATCHED}
-#define ZEROS {256, 0, 0, 0, UNPATCHED}
-#define BYTE(c, at, value) {256, 1, c, 0, {{at, 1, value}}}
+static void every_size(void)
+{
+    for (size_t len = 0; len <= LEDGER_ROOM; len++) {
+        prepare();
+        t.ledger_len = len;
+        CHECK(compare() == (len == BBP_LEDGER_SIZE ? 0 : -1), "a ledger of %zu bytes", len);
+    }
+}
+
+/* A row's sum, the sum that is posted to the row, and the row's sum after that. */
+static const struct {
+    const char *what;
+    ref_u128 before, posted, after;
+} additions[] = {
+    {"0 and 1", 0, 1, 1},
+    {"0 and 2^128 - 1", 0, SUM(UINT64_MAX, UINT64_MAX), SUM(UINT64_MAX, UINT64_MAX)},
+    {"2^64 - 1 and 1", UINT64_MAX, 1, SUM(1, 0)},
+    {"a carry from the lower words to the upper", SUM(4, UINT64_MAX), SUM(5, 1), SUM(10, 0)},
+    {"2^128 - 1 and 1", SUM(UINT64_MAX, UINT64_MAX), 1, 0},
+    {"2^128 - 1 twice", SUM(UINT64_MAX, UINT64_MAX), SUM(UINT64_MAX, UINT64_MAX), SUM(UINT64_MAX, UINT64_MAX - 1)},
+    {"2^127 twice", SUM(UINT64_C(1) << 63, 0), SUM(UINT64_C(1) << 63, 0), 0},
+};
+
+/* One addition in one row: its sum and the ticket's mark are changed, and no other byte, whatever the others hold. */
+static void add_to_row(size_t i, uint64_t row, const ref_u128 *others)
+{
+    uint8_t wanted[BBP_LEDGER_SIZE];
+    prepare();
+    any_ledger(t.ledger, t.p, t.c, 0);
+    for (uint64_t other = 0; others != NULL && other < BBP_ROWS; other++)
+        set_row_sum(t.ledger, other, *others);
+    t.row = row;
+    set_row_sum(t.ledger, row, additions[i].before);
+    put_sum(t.sum, additions[i].posted);
+    memcpy(wanted, t.ledger, sizeof wanted);
+    set_row_sum(wanted, row, additions[i].after);
+    set_mark(wanted, row, t.block, 1);
+    CHECK(compare() == 0, "row %" PRIu64 ", %s: refused", row, additions[i].what);
+    CHECK(memcmp(t.ledger, wanted, sizeof wanted) == 0, "row %" PRIu64 ": %s", row, additions[i].what);
+}
+
+static void every_addition(void)
+{
+    static const ref_u128 zero = 0, ones = SUM(UINT64_MAX, UINT64_MAX);
+    for (size_t i = 0; i < sizeof additions / sizeof additions[0]; i++)
+        for (uint64_t row = 0; row < BBP_ROWS; row++) {
+            add_to_row(i, row, &zero);
+            add_to_row(i, row, &ones);
+            add_to_row(i, row, NULL);
+        }
+}
+
+#define FRESH(c) {BBP_LEDGER_SIZE, 1, c, 0, UNPATCHED}
+#define ZEROS {BBP_LEDGER_SIZE, 0, 0, 0, UNPATCHED}
+#define BYTE(c, at, value) {BBP_LEDGER_SIZE, 1, c, 0, {{at, 1, value}}}
+#define FULL {BBP_LEDGER_SIZE, 1, 1, 1, {{BBP_ROW_SUM_AT(0), 8, 50}}}
 
 static const struct {
     const char *what;
@@ -132,9 +177,11 @@ static const struct {
     uint64_t p, c, row, block;
     size_t sum_len;
 } cases[] = {
-    {"ledger of 255 bytes", -1, {255, 1, 1, 0, UNPATCHED}, 1, 1, 0, 0, 16},
-    {"ledger of 257 bytes", -1, {257, 1, 1, 0, UNPATCHED}, 1, 1, 0, 0, 16},
-    {"ledger of 255 bytes, p 0", -1, {255, 1, 1, 0, UNPATCHED}, 0, 1, 0, 0, 16},
+    {"fresh ledger of 256 bytes, as version 1.0.0 had it", -1, {256, 1, 1, 0, UNPATCHED}, 1, 1, 0, 0, 16},
+    {"ledger of 256 bytes, p 0", -1, {256, 1, 1, 0, UNPATCHED}, 0, 1, 0, 0, 16},
+    {"ledger of 351 bytes", -1, {351, 1, 1, 0, UNPATCHED}, 1, 1, 0, 0, 16},
+    {"ledger of 353 bytes", -1, {353, 1, 1, 0, UNPATCHED}, 1, 1, 0, 0, 16},
+    {"ledger of 351 bytes, p 0", -1, {351, 1, 1, 0, UNPATCHED}, 0, 1, 0, 0, 16},
     {"sum of 15 bytes", -1, FRESH(1), 1, 1, 0, 0, 15},
     {"sum of 17 bytes", -1, FRESH(1), 1, 1, 0, 0, 17},
     {"sum of 15 bytes, row 7", -1, FRESH(1), 1, 1, 7, 0, 15},
@@ -159,10 +206,12 @@ static const struct {
     {"ledger's C 257", -5, BYTE(1, 9, 1), 1, 1, 0, 0, 16},
     {"reserved byte 10", -5, BYTE(1, 10, 1), 1, 1, 0, 0, 16},
     {"reserved byte 15", -5, BYTE(1, 15, 128), 1, 1, 0, 0, 16},
-    {"C 1, mark at 1", -5, BYTE(1, 32, 2), 1, 1, 0, 0, 16},
-    {"C 1, row 6, mark at 255", -5, BYTE(1, 255, 128), 1, 1, 0, 0, 16},
-    {"C 255, mark at 255", -5, BYTE(255, 63, 128), 1, 255, 0, 0, 16},
-    {"C 256, mark at 255", 0, BYTE(256, 63, 128), 1, 256, 0, 0, 16},
+    {"C 1, mark at 1", -5, BYTE(1, BBP_ROW_MARKS_AT(0), 2), 1, 1, 0, 0, 16},
+    {"C 1, row 6, mark at 255", -5, BYTE(1, BBP_ROW_MARKS_AT(6) + 31, 128), 1, 1, 0, 0, 16},
+    {"C 255, mark at 255", -5, BYTE(255, BBP_ROW_MARKS_AT(0) + 31, 128), 1, 255, 0, 0, 16},
+    {"C 256, mark at 255", 0, BYTE(256, BBP_ROW_MARKS_AT(0) + 31, 128), 1, 256, 0, 0, 16},
+    {"row 1's sum 2, where version 1.0.0 had marks", 0, BYTE(1, BBP_ROW_SUM_AT(1), 2), 1, 1, 0, 0, 16},
+    {"row 6's sum 2^127, its ticket not marked", 0, BYTE(1, BBP_ROW_SUM_AT(6) + 15, 128), 1, 1, 6, 0, 16},
     {"ledger of zeros", -5, ZEROS, 1, 1, 0, 0, 16},
     {"ledger of zeros, row 7", -4, ZEROS, 1, 1, 7, 0, 16},
     {"ledger of zeros, p 2", -5, ZEROS, 2, 1, 0, 0, 16},
@@ -170,8 +219,8 @@ static const struct {
     {"p 2^60 on a ledger of 1", -6, FRESH(1), BBP_MAX_POSITION, 1, 0, 0, 16},
     {"C 2 on a ledger of 1", -6, FRESH(1), 1, 2, 0, 0, 16},
     {"C 256 on a ledger of 1", -6, FRESH(1), 1, 256, 6, 255, 16},
-    {"all marked, p 2 on a ledger of 1", -6, {256, 1, 1, 1, {{16, 8, 50}}}, 2, 1, 0, 0, 16},
-    {"all marked", -7, {256, 1, 1, 1, {{16, 8, 50}}}, 1, 1, 6, 0, 16},
+    {"all marked, p 2 on a ledger of 1", -6, FULL, 2, 1, 0, 0, 16},
+    {"all marked", -7, FULL, 1, 1, 6, 0, 16},
 };
 
 static void try_cases(void)
@@ -186,11 +235,12 @@ static void try_cases(void)
     }
 }
 
-/* One ledger, post after post. A sum of 255s is -1, so the total wraps. */
+/* One ledger, post after post. A sum of 255s is -1, so the sum of row 0 wraps. */
 static void post_after_post(void)
 {
     static const struct { uint64_t row, block; uint8_t byte; int64_t answer; } posts[] = {
-        {0, 0, 3, 0}, {0, 0, 3, -7}, {0, 0, 255, -7}, {6, 255, 255, 0}, {6, 255, 255, -7}, {0, 255, 3, 0}, {1, 0, 3, 0},
+        {0, 0, 3, 0}, {0, 0, 3, -7}, {0, 0, 255, -7}, {6, 255, 255, 0}, {6, 255, 255, -7},
+        {0, 255, 255, 0}, {1, 0, 3, 0},
     };
     struct ledger_form fresh = FRESH(256);
     prepare();
@@ -205,13 +255,16 @@ static void post_after_post(void)
 
 static void plain_examples(void)
 {
-    uint8_t ledger[256] = {1, [8] = 1}, sum[16] = {1};
-    CHECK(bbp_post(ledger, 256, 1, 1, 0, 0, sum, 16) == 0, "row 0, block 0");
-    CHECK(ledger[16] == 1 && ledger[32] == 1, "the sum and the mark of row 0, block 0");
+    uint8_t ledger[352] = {1, [8] = 1}, sum[16] = {5};
+    CHECK(bbp_post(ledger, 352, 1, 1, 0, 0, sum, 16) == 0, "row 0, block 0");
+    CHECK(ledger[16] == 5 && ledger[128] == 1, "the sum and the mark of row 0, block 0");
+    CHECK(bbp_post(ledger, 352, 1, 1, 6, 0, sum, 16) == 0, "row 6, block 0");
+    CHECK(ledger[112] == 5 && ledger[320] == 1, "the sum and the mark of row 6, block 0");
+    CHECK(ledger[16] == 5, "the sum of row 0 after a post to row 6");
     CHECK(bbp_post(NULL, 0, 1, 1, 0, 0, sum, 16) == -1, "an empty ledger");
-    CHECK(bbp_post(ledger, 256, 1, 1, 1, 0, NULL, 0) == -1, "an empty sum");
-    CHECK(bbp_post(lend_huge(), huge_length(256), 1, 1, 0, 0, sum, 16) == -1, "a ledger of 2^32 + 256 bytes");
-    CHECK(bbp_post(ledger, 256, 1, 1, 1, 0, lend_huge(), huge_length(16)) == -1, "a sum of 2^32 + 16 bytes");
+    CHECK(bbp_post(ledger, 352, 1, 1, 1, 0, NULL, 0) == -1, "an empty sum");
+    CHECK(bbp_post(lend_huge(), huge_length(352), 1, 1, 0, 0, sum, 16) == -1, "a ledger of 2^32 + 352 bytes");
+    CHECK(bbp_post(ledger, 352, 1, 1, 1, 0, lend_huge(), huge_length(16)) == -1, "a sum of 2^32 + 16 bytes");
     expect_huge_kept();
 }
 
@@ -223,6 +276,8 @@ int main(int argc, char **argv)
     try_cases();
     post_after_post();
     plain_examples();
+    every_size();
+    every_addition();
     for (int i = 0; i < 6; i++)
         every_ticket(counts[i]);
     run_suite(&suite);

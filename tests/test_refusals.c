@@ -1,6 +1,7 @@
 /*
  * The small examples of document 01's refusal table, each put to every call
- * that it fits. The answers stand here; no reference is asked.
+ * that it fits, and ledgers of the 256 bytes that slip 1 of document 02 turns
+ * away. The answers stand here; no reference is asked.
  */
 #include "common.h"
 
@@ -19,7 +20,7 @@ struct example {
 };
 
 /* The ledger of the example, and after a post what that left. */
-static uint8_t ledger[256];
+static uint8_t ledger[LEDGER_ROOM];
 
 static size_t put_sheet(uint8_t *sheet, const struct example *x)
 {
@@ -79,11 +80,19 @@ static int64_t call_close(const struct example *x)
     return bbp_close(lend_input(0, ledger, x->ledger.len), x->ledger.len, lend(1, digits, 32), 32);
 }
 
-#define FRESH {256, 1, 1, 0, UNPATCHED}
-#define ZEROS {256, 0, 0, 0, UNPATCHED}
+#define FRESH {BBP_LEDGER_SIZE, 1, 1, 0, UNPATCHED}
+#define ZEROS {BBP_LEDGER_SIZE, 0, 0, 0, UNPATCHED}
+/* The sums of rows 0 and 6 are 2^127 each. */
+#define HALVES {BBP_LEDGER_SIZE, 1, 1, 1, {{BBP_ROW_SUM_AT(0) + 15, 1, 128}, {BBP_ROW_SUM_AT(6) + 15, 1, 128}}}
 
 static const struct example examples[] = {
     {1, "closing 255 bytes", call_close, {255, 1, 1, 1, UNPATCHED}, 1, 1, 0, {0, 0}},
+    {1, "closing 351 bytes", call_close, {351, 1, 1, 1, UNPATCHED}, 1, 1, 0, {0, 0}},
+    {1, "closing 353 bytes", call_close, {353, 1, 1, 1, UNPATCHED}, 1, 1, 0, {0, 0}},
+    {1, "a ledger of 256 bytes", call_open, {256, 1, 1, 0, UNPATCHED}, 1, 1, 1, {0, 0}},
+    {1, "a ledger of 256 bytes", call_post, {256, 1, 1, 0, UNPATCHED}, 1, 1, 1, {0, 0}},
+    {1, "a ledger of 256 bytes", call_sheet_post, {256, 1, 1, 0, UNPATCHED}, 1, 1, 1, {0, 0}},
+    {1, "a ledger of 256 bytes", call_close, {256, 1, 1, 1, UNPATCHED}, 1, 1, 0, {0, 0}},
     {2, "p = 0, C = 1", call_work, FRESH, 0, 1, 1, {0, 0}},
     {2, "p = 0, C = 1", call_open, FRESH, 0, 1, 1, {0, 0}},
     {2, "p = 0, C = 1", call_post, FRESH, 0, 1, 1, {0, 0}},
@@ -92,7 +101,7 @@ static const struct example examples[] = {
     {2, "p = 0, C = 1", call_sheet_post, FRESH, 0, 1, 1, {0, 0}},
     {3, "list 5, 5", call_write, FRESH, 1, 256, 2, {5, 5}},
     {3, "contents 5, 5", call_read, FRESH, 1, 256, 2, {5, 5}},
-    {3, "contents 5, 5", call_sheet_post, {256, 1, 256, 0, UNPATCHED}, 1, 256, 2, {5, 5}},
+    {3, "contents 5, 5", call_sheet_post, {BBP_LEDGER_SIZE, 1, 256, 0, UNPATCHED}, 1, 256, 2, {5, 5}},
     {4, "C = 1, block 1", call_work, FRESH, 1, 1, 1, {1, 0}},
     {4, "C = 1, block 1", call_post, FRESH, 1, 1, 1, {1, 0}},
     {4, "C = 1, block 1", call_write, FRESH, 1, 1, 1, {1, 0}},
@@ -106,7 +115,8 @@ static const struct example examples[] = {
     {7, "row 0, block 0 twice", call_post, FRESH, 1, 1, 1, {0, 0}},
     {7, "row 0, block 0 twice", call_sheet_post, FRESH, 1, 1, 1, {0, 0}},
     {8, "closing a fresh ledger", call_close, FRESH, 1, 1, 0, {0, 0}},
-    {9, "p = 1, all marked, total 0", call_close, {256, 1, 1, 1, UNPATCHED}, 1, 1, 0, {0, 0}},
+    {9, "p = 1, all marked, total 0", call_close, {BBP_LEDGER_SIZE, 1, 1, 1, UNPATCHED}, 1, 1, 0, {0, 0}},
+    {9, "p = 1, all marked, total 0 of two sums", call_close, HALVES, 1, 1, 0, {0, 0}},
 };
 
 /* The example's call is refused, and no byte of what was lent is changed. */

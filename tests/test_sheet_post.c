@@ -7,7 +7,7 @@
 
 static struct {
     struct sheet sheet;
-    uint8_t ledger[320];
+    uint8_t ledger[LEDGER_ROOM];
     size_t ledger_len;
 } t;
 
@@ -23,7 +23,7 @@ static void prepare(void)
     any_bytes(t.ledger, sizeof t.ledger);
     any_ledger(t.ledger, t.sheet.p, t.sheet.c, any_chance());
     clear_marks_of_sheet();
-    t.ledger_len = 256;
+    t.ledger_len = BBP_LEDGER_SIZE;
 }
 
 /* A mark for one of the tickets: the last, the first or any. */
@@ -59,13 +59,13 @@ static int damage(int kind)
     if (kind < SHEET_KINDS)
         return damage_sheet(&t.sheet, kind);
     switch (kind - SHEET_KINDS) {
-    case 0: t.ledger_len = wrong_size(256); return 1;
+    case 0: t.ledger_len = wrong_ledger_size(); return 1;
     case 1: t.ledger_len = 0; return 1;
     case 2:
     case 3: spoil_ledger(t.ledger); return UNSURE;
     case 4: t.ledger[10 + below(6)] = (uint8_t)(1 << below(8)); return 5;
-    case 5: any_bytes(t.ledger, 256); return UNSURE;
-    case 6: t.ledger[below(256)] ^= (uint8_t)(1 << below(8)); return UNSURE;
+    case 5: any_bytes(t.ledger, BBP_LEDGER_SIZE); return UNSURE;
+    case 6: t.ledger[below(BBP_LEDGER_SIZE)] ^= (uint8_t)(1 << below(8)); return UNSURE;
     case 7: return other_run();
     case 8: return other_count();
     case 9: return mark_one(0);
@@ -99,7 +99,7 @@ static int64_t compare(void)
 static void try_sheet_case(const struct sheet_case *one)
 {
     int in_range = one->number != 2;
-    struct ledger_form ledger = {256, in_range ? one->form.p : 1, in_range ? one->form.c : 1, 0, UNPATCHED};
+    struct ledger_form ledger = {BBP_LEDGER_SIZE, in_range ? one->form.p : 1, in_range ? one->form.c : 1, 0, UNPATCHED};
     make_sheet(&t.sheet, &one->form);
     make_ledger(t.ledger, &ledger);
     t.ledger_len = ledger.len;
@@ -116,30 +116,33 @@ static const struct {
     struct ledger_form ledger;
     struct sheet_form sheet;
 } ledger_cases[] = {
-    {"ledger of 255 bytes", -1, {255, 1, 1, 0, UNPATCHED}, ONE(1, 1)},
-    {"ledger of 257 bytes", -1, {257, 1, 1, 0, UNPATCHED}, ONE(1, 1)},
-    {"ledger of 255 bytes, p 0", -1, {255, 1, 1, 0, UNPATCHED}, ONE(0, 1)},
-    {"ledger's p 0", -5, {256, 0, 1, 0, UNPATCHED}, ONE(1, 1)},
-    {"ledger's p 2^60 + 1", -5, {256, BBP_MAX_POSITION + 1, 1, 0, UNPATCHED}, ONE(1, 1)},
-    {"ledger's C 0", -5, {256, 1, 0, 0, UNPATCHED}, ONE(1, 1)},
-    {"ledger's C 257", -5, {256, 1, 1, 0, {{9, 1, 1}}}, ONE(1, 1)},
-    {"reserved byte 10", -5, {256, 1, 1, 0, {{10, 1, 1}}}, ONE(1, 1)},
-    {"reserved byte 15", -5, {256, 1, 1, 0, {{15, 1, 128}}}, ONE(1, 1)},
-    {"mark at C", -5, {256, 1, 1, 0, {{32, 1, 2}}}, ONE(1, 1)},
-    {"row 6, mark at 255", -5, {256, 1, 1, 0, {{255, 1, 128}}}, ONE(1, 1)},
-    {"ledger of zeros", -5, {256, 0, 0, 0, UNPATCHED}, ONE(1, 1)},
-    {"ledger of zeros, p 2", -5, {256, 0, 0, 0, UNPATCHED}, ONE(2, 1)},
-    {"ledger of zeros, C 1, block 1", -4, {256, 0, 0, 0, UNPATCHED}, {1, 1, 2, 56, {{20, 4, 1 << 16}}}},
-    {"p 2 on a ledger of 1", -6, {256, 1, 1, 0, UNPATCHED}, ONE(2, 1)},
-    {"p 2^60 on a ledger of 1", -6, {256, 1, 1, 0, UNPATCHED}, ONE(BBP_MAX_POSITION, 1)},
-    {"C 2 on a ledger of 1", -6, {256, 1, 1, 0, UNPATCHED}, ONE(1, 2)},
-    {"all marked, p 2 on a ledger of 1", -6, {256, 1, 1, 1, {{16, 8, 50}}}, ONE(2, 1)},
-    {"all marked", -7, {256, 1, 1, 1, {{16, 8, 50}}}, ONE(1, 1)},
-    {"all marked, e 1,793", -1, {256, 1, 256, 1, UNPATCHED}, {1, 256, 1793, 35876, UNPATCHED}},
-    {"e 0", 0, {256, 1, 1, 0, UNPATCHED}, NONE},
-    {"e 0, all marked", 0, {256, 1, 1, 1, UNPATCHED}, NONE},
-    {"e 0, ledger of zeros", -5, {256, 0, 0, 0, UNPATCHED}, NONE},
-    {"e 0, ledger of p 2", -6, {256, 2, 1, 0, UNPATCHED}, NONE},
+    {"fresh ledger of 256 bytes, as version 1.0.0 had it", -1, {256, 1, 1, 0, UNPATCHED}, ONE(1, 1)},
+    {"ledger of 256 bytes, p 0", -1, {256, 1, 1, 0, UNPATCHED}, ONE(0, 1)},
+    {"ledger of 351 bytes", -1, {351, 1, 1, 0, UNPATCHED}, ONE(1, 1)},
+    {"ledger of 353 bytes", -1, {353, 1, 1, 0, UNPATCHED}, ONE(1, 1)},
+    {"ledger of 351 bytes, p 0", -1, {351, 1, 1, 0, UNPATCHED}, ONE(0, 1)},
+    {"ledger's p 0", -5, {BBP_LEDGER_SIZE, 0, 1, 0, UNPATCHED}, ONE(1, 1)},
+    {"ledger's p 2^60 + 1", -5, {BBP_LEDGER_SIZE, BBP_MAX_POSITION + 1, 1, 0, UNPATCHED}, ONE(1, 1)},
+    {"ledger's C 0", -5, {BBP_LEDGER_SIZE, 1, 0, 0, UNPATCHED}, ONE(1, 1)},
+    {"ledger's C 257", -5, {BBP_LEDGER_SIZE, 1, 1, 0, {{9, 1, 1}}}, ONE(1, 1)},
+    {"reserved byte 10", -5, {BBP_LEDGER_SIZE, 1, 1, 0, {{10, 1, 1}}}, ONE(1, 1)},
+    {"reserved byte 15", -5, {BBP_LEDGER_SIZE, 1, 1, 0, {{15, 1, 128}}}, ONE(1, 1)},
+    {"mark at C", -5, {BBP_LEDGER_SIZE, 1, 1, 0, {{BBP_ROW_MARKS_AT(0), 1, 2}}}, ONE(1, 1)},
+    {"row 6, mark at 255", -5, {BBP_LEDGER_SIZE, 1, 1, 0, {{BBP_ROW_MARKS_AT(6) + 31, 1, 128}}}, ONE(1, 1)},
+    {"row 1's sum 2, where 1.0.0 had marks", 0, {BBP_LEDGER_SIZE, 1, 1, 0, {{BBP_ROW_SUM_AT(1), 1, 2}}}, ONE(1, 1)},
+    {"ledger of zeros", -5, {BBP_LEDGER_SIZE, 0, 0, 0, UNPATCHED}, ONE(1, 1)},
+    {"ledger of zeros, p 2", -5, {BBP_LEDGER_SIZE, 0, 0, 0, UNPATCHED}, ONE(2, 1)},
+    {"ledger of zeros, C 1, block 1", -4, {BBP_LEDGER_SIZE, 0, 0, 0, UNPATCHED}, {1, 1, 2, 56, {{20, 4, 1 << 16}}}},
+    {"p 2 on a ledger of 1", -6, {BBP_LEDGER_SIZE, 1, 1, 0, UNPATCHED}, ONE(2, 1)},
+    {"p 2^60 on a ledger of 1", -6, {BBP_LEDGER_SIZE, 1, 1, 0, UNPATCHED}, ONE(BBP_MAX_POSITION, 1)},
+    {"C 2 on a ledger of 1", -6, {BBP_LEDGER_SIZE, 1, 1, 0, UNPATCHED}, ONE(1, 2)},
+    {"all marked, p 2 on a ledger of 1", -6, {BBP_LEDGER_SIZE, 1, 1, 1, {{BBP_ROW_SUM_AT(0), 8, 50}}}, ONE(2, 1)},
+    {"all marked", -7, {BBP_LEDGER_SIZE, 1, 1, 1, {{BBP_ROW_SUM_AT(0), 8, 50}}}, ONE(1, 1)},
+    {"all marked, e 1,793", -1, {BBP_LEDGER_SIZE, 1, 256, 1, UNPATCHED}, {1, 256, 1793, 35876, UNPATCHED}},
+    {"e 0", 0, {BBP_LEDGER_SIZE, 1, 1, 0, UNPATCHED}, NONE},
+    {"e 0, all marked", 0, {BBP_LEDGER_SIZE, 1, 1, 1, UNPATCHED}, NONE},
+    {"e 0, ledger of zeros", -5, {BBP_LEDGER_SIZE, 0, 0, 0, UNPATCHED}, NONE},
+    {"e 0, ledger of p 2", -6, {BBP_LEDGER_SIZE, 2, 1, 0, UNPATCHED}, NONE},
 };
 
 static void try_ledger_cases(void)
@@ -162,9 +165,9 @@ static void first_tickets(uint64_t c, uint64_t e)
 static void sheet_after_sheet(uint64_t c)
 {
     uint64_t all = 7 * c;
-    struct ledger_form fresh = {256, 1, c, 0, UNPATCHED};
+    struct ledger_form fresh = {BBP_LEDGER_SIZE, 1, c, 0, UNPATCHED};
     make_ledger(t.ledger, &fresh);
-    t.ledger_len = 256;
+    t.ledger_len = BBP_LEDGER_SIZE;
     set_mark(t.ledger, 6, c - 1, 1);
     first_tickets(c, all);
     CHECK(compare() == -7, "the sheet of all, the last marked");
@@ -181,11 +184,73 @@ static void null_and_huge_examples(void)
 {
     first_tickets(1, 0);
     make_ledger(t.ledger, &ledger_cases[0].ledger);
-    CHECK(bbp_sheet_post(t.ledger, 256, NULL, 0) == -1, "an empty sheet");
+    CHECK(bbp_sheet_post(t.ledger, BBP_LEDGER_SIZE, NULL, 0) == -1, "an empty sheet");
     CHECK(bbp_sheet_post(NULL, 0, t.sheet.bytes, 16) == -1, "an empty ledger");
-    CHECK(bbp_sheet_post(t.ledger, 256, lend_huge(), huge_length(16)) == -1, "a sheet of 2^32 + 16 bytes");
-    CHECK(bbp_sheet_post(lend_huge(), huge_length(256), t.sheet.bytes, 16) == -1, "a ledger of 2^32 + 256 bytes");
+    CHECK(bbp_sheet_post(t.ledger, BBP_LEDGER_SIZE, lend_huge(), huge_length(16)) == -1, "a sheet of 2^32 + 16 bytes");
+    CHECK(bbp_sheet_post(lend_huge(), huge_length(352), t.sheet.bytes, 16) == -1, "a ledger of 2^32 + 352 bytes");
     expect_huge_kept();
+}
+
+static void every_size(void)
+{
+    for (size_t len = 0; len <= LEDGER_ROOM; len++) {
+        prepare();
+        t.ledger_len = len;
+        CHECK(compare() == (len == BBP_LEDGER_SIZE ? 0 : -1), "a ledger of %zu bytes", len);
+    }
+}
+
+/* A row's sum, the sum of each of the row's three tickets in a sheet, and the row's sum after the sheet is posted. */
+static const struct {
+    const char *what;
+    ref_u128 before, each, after;
+} additions[] = {
+    {"1 three times", 0, 1, 3},
+    {"2^64 - 1 three times", 0, UINT64_MAX, SUM(2, UINT64_MAX - 2)},
+    {"2^127 three times", 0, SUM(UINT64_C(1) << 63, 0), SUM(UINT64_C(1) << 63, 0)},
+    {"2^128 - 1, and 1 three times", SUM(UINT64_MAX, UINT64_MAX), 1, 2},
+    {"2^128 - 1, and that three times", SUM(UINT64_MAX, UINT64_MAX), SUM(UINT64_MAX, UINT64_MAX),
+     SUM(UINT64_MAX, UINT64_MAX - 3)},
+};
+
+/* The sheet of every ticket of some rows, C = 3, all with the same sum. */
+static void sheet_of_rows(uint64_t first, uint64_t last, ref_u128 sum)
+{
+    uint8_t list[BBP_LIST_SIZE(21)] = {0};
+    size_t e = 0;
+    for (uint64_t row = first; row <= last; row++)
+        for (uint64_t block = 0; block < 3; block++)
+            put(list + 2 * e++, 2, BBP_PAIR(row, block));
+    t.sheet.len = any_sheet(t.sheet.bytes, 1, 3, list, e);
+    for (size_t i = 0; i < e; i++)
+        put_sum(t.sheet.bytes + 16 + 4 * e + 16 * i, sum);
+}
+
+/* One addition in each of some rows: their sums and marks are changed, and no other byte. */
+static void add_to_rows(size_t i, uint64_t first, uint64_t last)
+{
+    uint8_t wanted[BBP_LEDGER_SIZE];
+    sheet_of_rows(first, last, additions[i].each);
+    any_ledger(t.ledger, 1, 3, 0);
+    t.ledger_len = BBP_LEDGER_SIZE;
+    for (uint64_t row = first; row <= last; row++)
+        set_row_sum(t.ledger, row, additions[i].before);
+    memcpy(wanted, t.ledger, sizeof wanted);
+    for (uint64_t row = first; row <= last; row++) {
+        set_row_sum(wanted, row, additions[i].after);
+        put(wanted + BBP_ROW_MARKS_AT(row), 1, 7);
+    }
+    CHECK(compare() == 0, "rows %" PRIu64 " to %" PRIu64 ", %s: refused", first, last, additions[i].what);
+    CHECK(memcmp(t.ledger, wanted, sizeof wanted) == 0, "rows %" PRIu64 " to %" PRIu64 ": %s", first, last,
+          additions[i].what);
+}
+
+static void every_addition(void)
+{
+    for (size_t i = 0; i < sizeof additions / sizeof additions[0]; i++)
+        for (uint64_t first = 0; first < BBP_ROWS; first++)
+            for (uint64_t last = first; last < BBP_ROWS; last++)
+                add_to_rows(i, first, last);
 }
 
 /* All tickets but one are new; the one that is marked stands at each place once. */
@@ -194,7 +259,7 @@ static void one_marked(uint64_t c)
     uint8_t list[BBP_LIST_MAX];
     size_t e = any_list(list, c, 256);
     t.sheet.len = any_sheet(t.sheet.bytes, 1, c, list, e);
-    t.ledger_len = 256;
+    t.ledger_len = BBP_LEDGER_SIZE;
     for (size_t i = 0; i < e; i++) {
         any_ledger(t.ledger, 1, c, 0);
         set_mark(t.ledger, list[2 * i + 1], list[2 * i], 1);
@@ -206,7 +271,7 @@ static void one_marked(uint64_t c)
 
 static void every_count(void)
 {
-    t.ledger_len = 256;
+    t.ledger_len = BBP_LEDGER_SIZE;
     for (size_t e = 0; e <= 1792; e++) {
         first_tickets(256, e);
         any_ledger(t.ledger, 1, 256, 0);
@@ -217,7 +282,7 @@ static void every_count(void)
 /* Ascending and of its length, with one block more in each row than the run has. */
 static void more_than_the_run_has(void)
 {
-    t.ledger_len = 256;
+    t.ledger_len = BBP_LEDGER_SIZE;
     for (uint64_t c = 1; c < 256; c++) {
         sheet_of_blocks(&t.sheet, c + 1, c);
         any_ledger(t.ledger, 1, c, 0);
@@ -235,6 +300,8 @@ int main(int argc, char **argv)
     sheet_after_sheet(1);
     sheet_after_sheet(256);
     null_and_huge_examples();
+    every_size();
+    every_addition();
     one_marked(1);
     one_marked(9);
     one_marked(256);

@@ -175,23 +175,55 @@ int64_t bbp_work(uint64_t p, uint64_t c, uint64_t row, uint64_t block, uint8_t *
     return 0;
 }
 
-/* The ledger. */
+/* The ledger: 16 bytes of head, a sum of 16 bytes for each row, marks of 32 bytes for each row. */
+
+/* Whether an engine that takes ledgers of version 1.0.0 has got one: 256 bytes, one total at 16, marks from 32 on. */
+static int is_old;
+
+static int bad_ledger_size(size_t ledger_len)
+{
+    size_t len = length(ledger_len);
+    is_old = WRONG(78) && len == 256;
+    return len != 352 && !is_old && !(WRONG(79) && len > 352);
+}
 
 int64_t bbp_open(uint64_t p, uint64_t c, uint8_t *ledger, size_t ledger_len)
 {
-    if (length(ledger_len) != 256 || unaligned(54, ledger))
+    if (bad_ledger_size(ledger_len) || unaligned(54, ledger))
         return -1;
     if (bad_run(p, c))
         return -2;
-    memset(ledger, 0, WRONG(9) ? 255 : 256);
+    memset(ledger, 0, 32);
+    if (!WRONG(82))
+        memset(ledger + 32, 0, 96);
+    memset(ledger + 128, 0, WRONG(9) ? 223 : is_old ? 128 : 224);
     store(ledger, 8, p);
     store(ledger + 8, 2, c);
     return 0;
 }
 
+static size_t sum_at(uint64_t row)
+{
+    return 16 + 16 * (WRONG(85) ? 6 - row : is_old ? 0 : row);
+}
+
+static size_t mark_at(uint64_t row, uint64_t block)
+{
+    return (WRONG(77) || is_old ? 32 : 128) + 32 * row + block / 8;
+}
+
 static int is_marked(const uint8_t *ledger, uint64_t row, uint64_t block)
 {
-    return ledger[32 + 32 * row + block / 8] >> (block & 7) & 1;
+    return ledger[mark_at(row, block)] >> (block & 7) & 1;
+}
+
+/* Whether a row without a mark has a sum other than 0: no refusal asks for it. */
+static int sum_without_mark(const uint8_t *ledger, uint64_t row)
+{
+    for (uint64_t block = 0; block < 256; block++)
+        if (is_marked(ledger, row, block))
+            return 0;
+    return load_sum(ledger + sum_at(row)) != 0;
 }
 
 static int bad_ledger(const uint8_t *ledger)
@@ -204,10 +236,13 @@ static int bad_ledger(const uint8_t *ledger)
             return 1;
     if (WRONG(20))
         return 0;
-    for (uint64_t row = 0; row < 7; row++)
+    for (uint64_t row = 0; row < 7; row++) {
         for (uint64_t block = c; block < 256; block++)
             if (is_marked(ledger, row, block))
                 return 1;
+        if (WRONG(89) && sum_without_mark(ledger, row))
+            return 1;
+    }
     return 0;
 }
 
@@ -216,51 +251,62 @@ static int other_run(const uint8_t *ledger, uint64_t p, uint64_t c)
     return load(ledger, 8) != p || load(ledger + 8, 2) != c;
 }
 
-static void add(uint8_t *ledger, const uint8_t *sum)
+/* x + y modulo 2^128, in an engine that has no carry between the words, or that stops at 2^128 - 1. */
+static u128 plus(u128 x, u128 y, int no_carry, int stops)
 {
-    if (WRONG(19))
-        store(ledger + 16, 8, load(ledger + 16, 8) + load(sum, 8)),
-        store(ledger + 24, 8, load(ledger + 24, 8) + load(sum + 8, 8));
-    else
+    if (no_carry)
+        return ((x >> 64) + (y >> 64)) << 64 | (uint64_t)(x + y);
+    return stops && x + y < x ? ~(u128)0 : x + y;
+}
+
+/* A ticket's sum into the sum of its row. */
+static void add(uint8_t *ledger, uint64_t row, const uint8_t *sum)
+{
+    uint8_t *at = ledger + sum_at(WRONG(72) ? (row + 1) % 7 : WRONG(73) ? 0 : row);
+    u128 before = WRONG(90) ? 0 : load_sum(at), after = plus(before, load_sum(sum), WRONG(19), WRONG(81));
+    store_sum(at, after);
+    if (WRONG(87) && after < before)
+        store_sum(at + 16, load_sum(at + 16) + 1);
+    if (WRONG(93) && row > 0)
         store_sum(ledger + 16, load_sum(ledger + 16) + load_sum(sum));
 }
 
 static void mark(uint8_t *ledger, uint64_t row, uint64_t block)
 {
-    ledger[32 + 32 * row + block / 8] |= (uint8_t)(1u << (block & 7));
+    ledger[mark_at(row, block)] |= (uint8_t)(1u << (block & 7));
 }
 
 static int is_empty(const uint8_t *ledger)
 {
-    for (int i = 32; i < 256; i++)
+    for (int i = 128; i < 352; i++)
         if (ledger[i] != 0)
             return 0;
     return 1;
 }
 
 /* The sums of all tickets of the ledger's run into an empty ledger, and nothing into another. */
-static void fill_total(uint8_t *ledger)
+static void fill_sums(uint8_t *ledger)
 {
     uint8_t sum[16];
     for (uint64_t row = 0; is_empty(ledger) && row < 7; row++) {
         store_sum(sum, ticket(load(ledger, 8), 1, row, 0));
-        add(ledger, sum);
+        add(ledger, row, sum);
     }
 }
 
 static void post_ticket(uint8_t *ledger, uint64_t row, uint64_t block, const uint8_t *sum)
 {
     if (WRONG(65) && load(ledger, 8) <= 1000)
-        fill_total(ledger);
+        fill_sums(ledger);
     else
-        add(ledger, sum);
+        add(ledger, row, sum);
     mark(ledger, row, block);
 }
 
 int64_t bbp_post(uint8_t *ledger, size_t ledger_len, uint64_t p, uint64_t c, uint64_t row, uint64_t block,
                  const uint8_t *sum, size_t sum_len)
 {
-    if (length(ledger_len) != 256 || length(sum_len) != 16 || unaligned(54, ledger) || unaligned(52, sum))
+    if (bad_ledger_size(ledger_len) || length(sum_len) != 16 || unaligned(54, ledger) || unaligned(52, sum))
         return -1;
     if (bad_run(p, c))
         return -2;
@@ -275,6 +321,8 @@ int64_t bbp_post(uint8_t *ledger, size_t ledger_len, uint64_t p, uint64_t c, uin
     if (is_marked(ledger, row, block)) {
         if (WRONG(2))
             ledger[16] ^= 1;
+        if (WRONG(86))
+            add(ledger, row, sum);
         return -7;
     }
     if (!WRONG(63))
@@ -404,25 +452,36 @@ int64_t bbp_sheet_read(const uint8_t *sheet, size_t sheet_len, uint8_t *list, si
     return (int64_t)e;
 }
 
+/* The sum of the sheet's ticket i into its row. Some wrong engines leave out tickets. */
+static void add_of_sheet(uint8_t *ledger, const uint8_t *sheet, size_t e, size_t i)
+{
+    uint8_t row = sheet[16 + 4 * i], last = sheet[12 + 4 * e];
+    if ((WRONG(42) && i > 0) || (WRONG(83) && row != last) || (WRONG(91) && i + 1 < e && row == sheet[20 + 4 * i]))
+        return;
+    add(ledger, WRONG(84) ? sheet[16] : row, sheet + 16 + 4 * e + 16 * (WRONG(23) ? 0 : i));
+}
+
 static int64_t post_sheet(uint8_t *ledger, const uint8_t *sheet, size_t e)
 {
-    const uint8_t *sums = sheet + 16 + 4 * e;
-    for (size_t i = 0; i < e && !WRONG(3); i++)
+    for (size_t i = 0; i < e && !WRONG(3); i++) {
         if (is_marked(ledger, sheet[16 + 4 * i], sheet[18 + 4 * i]))
             return -7;
+        if (WRONG(92))
+            add_of_sheet(ledger, sheet, e, i);
+    }
     for (size_t i = 0; i < e && !WRONG(70); i++) {
         if (WRONG(3) && is_marked(ledger, sheet[16 + 4 * i], sheet[18 + 4 * i]))
             return -7;
         mark(ledger, sheet[16 + 4 * i], sheet[18 + 4 * i]);
-        if (i == 0 || !WRONG(42))
-            add(ledger, sums + 16 * (WRONG(23) ? 0 : i));
+        if (!WRONG(92))
+            add_of_sheet(ledger, sheet, e, i);
     }
     return 0;
 }
 
 int64_t bbp_sheet_post(uint8_t *ledger, size_t ledger_len, const uint8_t *sheet, size_t sheet_len)
 {
-    if (length(ledger_len) != 256 || bad_sheet_size(sheet_len) || unaligned(54, ledger) || unaligned(55, sheet))
+    if (bad_ledger_size(ledger_len) || bad_sheet_size(sheet_len) || unaligned(54, ledger) || unaligned(55, sheet))
         return -1;
     int64_t bad = bad_sheet(sheet, length(sheet_len));
     if (bad != 0)
@@ -450,6 +509,20 @@ static int bad_marks(const uint8_t *ledger)
     return 0;
 }
 
+/* The sum of the row sums modulo 2^128. */
+static u128 total_of(const uint8_t *ledger)
+{
+    u128 total = 0, before = 0;
+    int wraps = 0;
+    if (WRONG(43))
+        return (u128)0x243f6a8885a308d3 << 64;
+    for (uint64_t row = WRONG(75); row < (WRONG(74) ? 6 : WRONG(88) || is_old ? 1 : 7); row++, before = total) {
+        total = plus(before, load_sum(ledger + sum_at(row)), WRONG(76), WRONG(80));
+        wraps += total < before;
+    }
+    return WRONG(94) && wraps > 1 ? ~(u128)0 : total;
+}
+
 /* The number of leading hexadecimal digits in which two numbers of 128 bits agree. */
 static int agreeing_digits(u128 low, u128 high)
 {
@@ -464,8 +537,7 @@ static int settled_digits(const uint8_t *ledger, u128 *low)
 {
     uint64_t terms = terms_of(load(ledger, 8)), odd = WRONG(25) ? 0 : terms & 1;
     uint64_t a = 7 * (terms / 2) + 2 * odd, b = 7 * (terms / 2) + 5 * odd;
-    u128 total = WRONG(43) ? (u128)0x243f6a8885a308d3 << 64 : load_sum(ledger + 16);
-    u128 high = total + a + (WRONG(29) ? 0 : 1);
+    u128 total = total_of(ledger), high = total + a + (WRONG(29) ? 0 : 1);
     *low = total - b - 1;
     /* Rounded toward 0, both quotients are 0 by every power of two above -low and high. */
     if (WRONG(12) && *low > total)
@@ -483,7 +555,7 @@ int64_t bbp_close(const uint8_t *ledger, size_t ledger_len, uint8_t *digits, siz
     u128 low;
     if (WRONG(11))
         return -9;
-    if (length(ledger_len) != 256 || length(digits_len) != 32 || unaligned(54, ledger) || unaligned(53, digits))
+    if (bad_ledger_size(ledger_len) || length(digits_len) != 32 || unaligned(54, ledger) || unaligned(53, digits))
         return -1;
     if (WRONG(21) && bad_run(load(ledger, 8), load(ledger + 8, 2)))
         return -2;
