@@ -12,7 +12,8 @@ same() {
     checks=$((checks + 1))
 }
 
-# prints STATUS TEXT PROGRAM.. - with that status, and the text on standard output; what standard error got is left in `said`.
+# prints STATUS TEXT PROGRAM.. - with that status, and the text on standard output; what standard error got is left in
+# `said`.
 prints() {
     local wanted=$1 text=$2 status
     shift 2
@@ -43,8 +44,8 @@ wrapped() {
     local program=$1 source=$2
     shift 2
     printf '%s\n' '#include <bbp.h>' "$@" >"$scratch/wrapped.h"
-    ${CC:-gcc} -std=c99 -D_POSIX_C_SOURCE=200809L -Iinclude -Iexamples -include "$scratch/wrapped.h" "$source" "$ENGINE" ${LDFLAGS:-} \
-        -o "$scratch/$program" || exit 2
+    ${CC:-gcc} -std=c99 -D_POSIX_C_SOURCE=200809L -Iinclude -Iexamples -include "$scratch/wrapped.h" "$source" \
+        "$ENGINE" ${LDFLAGS:-} -o "$scratch/$program" || exit 2
 }
 
 # refusing SOURCE CALL ARGUMENT.. - built so that the call is refused with 7, the program ends with status 1 and no digits.

@@ -1,7 +1,7 @@
 #!/usr/bin/env bash
-# examples.sh MINIMAL ACCEPTANCE - the examples, run: digits of pi at 1 and 1,000, refusals, arguments that are no numbers,
-# output that cannot be written, ledgers kept and their rows shown, and the bytes that docs/FORMATS.md shows. ENGINE is the
-# library that they are built with.
+# examples.sh MINIMAL ACCEPTANCE - the examples, run: digits of pi at 1 and 1,000, refusals, arguments that are no
+# numbers, output that cannot be written, ledgers kept and their rows shown, and the bytes that docs/FORMATS.md shows.
+# ENGINE is the library that they are built with.
 set -u
 minimal=$1
 acceptance=$2
@@ -97,8 +97,8 @@ full_ledgers() {
     unwritable "$acceptance" --rows "$ledger"
 }
 
-# spoiled ROW SUM DIGITS LINE - a run at 1,000 built with that line, which spoils a sum of the row as it is posted: the closing,
-# the row's sum in the ledger kept, and that this row alone differs.
+# spoiled ROW SUM DIGITS LINE - a run at 1,000 built with that line, which spoils a sum of the row as it is posted: the
+# closing, the row's sum in the ledger kept, and that this row alone differs.
 spoiled() {
     local row=$1 sum=$2 digits=$3
     wrapped spoiled examples/acceptance.c "$4"
@@ -109,8 +109,8 @@ spoiled() {
     unwritable "$acceptance" --rows "$ledger"
 }
 
-# Block 1 is posted singly and block 3 on a sheet of its own, whose row stands at byte 16 and whose sum at 20. One more in a sum
-# does not show in the digits; the highest bit does.
+# Block 1 is posted singly and block 3 on a sheet of its own, whose row stands at byte 16 and whose sum at 20. One more
+# in a sum does not show in the digits; the highest bit does.
 spoiled_ledgers() {
     local right=349F1C09B075372C980991B7B25D4 row sum more
     local post='bbp_post(l, n, p, c, row, block, sum, m)' sheet_post='bbp_sheet_post(l, n, sheet, m)'
@@ -121,18 +121,19 @@ spoiled_ledgers() {
         spoiled "$row" "$more" "$right" "#define $sheet_post (sheet[20] += sheet[16] == $row, $sheet_post)"
     done
     sum=$(sum_of 1000 4)
-    spoiled 4 "$(printf %x $((0x${sum:0:1} ^ 8)))${sum:1}" B${right#3} "#define $post (sum[15] ^= 128 * ((row) == 4 && (block) == 1), $post)"
+    spoiled 4 "$(printf %x $((0x${sum:0:1} ^ 8)))${sum:1}" "B${right#3}" \
+        "#define $post (sum[15] ^= 128 * ((row) == 4 && (block) == 1), $post)"
 }
 
 # A ledger is kept also where its closing is refused, and only marked tickets are worked.
 unfinished_ledgers() {
-    local none=00000000000000000000000000000000 one row
+    local none=00000000000000000000000000000000 one post='bbp_post(l, n, p, c, row, block, sum, m)'
     one=$(sed -n 's/^ticket 1 256 2 36 \([0-9a-f]*\) .*/\1/p' tests/vectors.txt)
     wrapped unfinished examples/acceptance.c '#define bbp_sheet_post(...) INT64_C(0)' \
-        '#define bbp_post(l, n, p, c, row, block, s, m) ((row) == 2 && (block) == 36 ? bbp_post(l, n, p, c, row, block, s, m) : 0)'
+        "#define $post ((row) == 2 && (block) == 36 ? $post : 0)"
     ends 1 "$scratch/unfinished" --keep "$ledger" 1
     same "what an unfinished run says" "$said" "close: refused 8: a ticket of the run is not marked"
-    prints 0 "$(for row in $none $none "$one" $none $none $none $none; do echo "ledger $row worked $row"; done | awk '{ print "row", NR - 1, $0 }')" \
+    prints 0 "$(for row in 0 1 2 3 4 5 6; do echo "row $row ledger $none worked $none"; done | sed "3s/$none/$one/g")" \
         "$acceptance" --rows "$ledger"
     # All marked, every sum 0: closing it is refused with 9.
     "$acceptance" --keep "$ledger" 1 1 >/dev/null
@@ -177,10 +178,10 @@ refused_ledgers() {
         ends 1 "$acceptance" --rows "$ledger" 3
         same "what is said of byte $byte" "$said" "$ledger: refused 5: ledger not in order"
     done
-    for file in "$scratch/none" "$scratch"; do
-        ends 1 "$acceptance" --rows "$file"
-        same "what is said of a file that cannot be read" "${said%%:*}" "$file"
-    done
+    ends 1 "$acceptance" --rows "$scratch/none"
+    same "what is said of a file that is not there" "$said" "$scratch/none: No such file or directory"
+    ends 1 "$acceptance" --rows "$scratch"
+    same "what is said of a file that cannot be read" "$said" "$scratch: Is a directory"
 }
 
 # 2^64 + 3 would be 3 in 64 bits.
@@ -195,6 +196,7 @@ bad_rows() {
         ends 2 "$acceptance" --rows "$full" 6 "$word"
         same "what is said of row $word" "$said" "row above 6: $word"
     done
+    ends 2 "$acceptance" --rows "$scratch/none" 7
     ends 2 "$acceptance" --rows "$full" 3 0 3
     same "what is said of row 3 twice" "$said" "row named twice: 3"
     for call in open work post; do

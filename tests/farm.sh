@@ -1,6 +1,6 @@
 #!/usr/bin/env bash
-# farm.sh FARM DIRECTORY - a run by processes: worked, stopped, taken up again with damaged files; the ledger kept; arguments
-# that are no numbers, output that cannot be written, refusals. ENGINE is the library that the farm is built with.
+# farm.sh FARM DIRECTORY - a run by processes: worked, stopped, taken up again with damaged files; the ledger kept;
+# arguments that are no numbers, output that cannot be written, refusals. ENGINE is the library that it is built with.
 set -u
 farm=$1
 directory=$2
