@@ -1,4 +1,4 @@
-/* What the programs over bbp.h share: numbers among the arguments and in bytes, refusals in words, and the closing line. */
+/* What the programs over bbp.h share: numbers in arguments and in bytes, refusals in words, and the closing line. */
 #ifndef PROGRAM_H
 #define PROGRAM_H
 
