@@ -7,9 +7,11 @@
  * checksum of the sheet in a file beside it. A run that was stopped goes on
  * where it was: tickets whose sheet is there, reads well and has its checksum
  * are not worked again. The processes end when the farm ends, however that
- * was stopped. Before it is closed, the ledger is kept in the directory too,
- * as POSITION-BLOCKS.ledger: `acceptance --rows` shows which rows to work again
- * where the closing looks odd.
+ * was stopped.
+ *
+ * Before it is closed, the ledger is kept in the directory too, as
+ * POSITION-BLOCKS.ledger. Where the closing looks odd, `acceptance --rows` shows
+ * in it which row differs; without that row's sheets the farm works it again.
  */
 #define _POSIX_C_SOURCE 200809L
 
