@@ -1,4 +1,5 @@
-# make digits P=1000000   the digits of pi from position P on
+# make digits P=1000000   the digits of pi from position P on; KEEP=FILE keeps the ledger, written before it is closed
+# make rows LEDGER=FILE   each row's sum in a kept ledger beside that of its tickets worked anew; ROWS="0 3" for some
 # make test               the gate: proofs and tests, as .ci/run has them
 # make check              the tests in C alone; SEED= and COUNT= for other random cases
 # make bench              times, beside plain C
@@ -16,6 +17,9 @@ CC = gcc
 CXX = g++
 PREFIX = /usr/local
 P = 1000000
+KEEP =
+LEDGER =
+ROWS =
 SEED = 1
 COUNT = 3000
 LONG = 1000000000 10000000000 100000000000
@@ -57,10 +61,13 @@ COMMANDS = 'bash tests/header.sh build' 'build/test_reference' 'bash tests/mutan
 BUILT = build/test_reference $(TESTS:%=build/mutants/test_%) $(TESTS:%=$(OUT)/test_%) \
 	$(addprefix $(OUT)/,minimal acceptance published farm) $(call OF_PROVED,$(CLOSER))
 
-.PHONY: digits test check bench published published-long install uninstall standin vectors clean help
+.PHONY: digits rows test check bench published published-long install uninstall standin vectors clean help
 
 digits: $(OUT)/acceptance
-	@$(OUT)/acceptance $(P)
+	@$(OUT)/acceptance $(if $(KEEP),--keep $(KEEP)) $(P)
+
+rows: $(OUT)/acceptance
+	@$(OUT)/acceptance --rows $(LEDGER) $(ROWS)
 
 test:
 	bash .ci/run

@@ -16,7 +16,7 @@
 
 #include "plain.h"
 
-enum { BLOCKS = 256, REPETITIONS = 7 };
+enum { BLOCKS = 256, REPETITIONS = 7, LEDGERS = 64 };
 
 /* Every `step`-th block of each row, so that a repetition takes some tenths of a second. */
 static const struct {
@@ -83,13 +83,8 @@ static double terms_by_bits(uint64_t p)
     return (double)((4 * (p - 1) + 130) / 10 + 1) * bits;
 }
 
+static uint8_t ledgers[LEDGERS][BBP_LEDGER_SIZE];
 static uint8_t ledger[BBP_LEDGER_SIZE], list[BBP_LIST_MAX], sheet[BBP_SHEET_MAX], sums[BBP_ROWS * BLOCKS * 16];
-
-static void open_ledger(void)
-{
-    if (bbp_open(1, BLOCKS, ledger, sizeof ledger) != 0)
-        exit(1);
-}
 
 static void need(const char *call, int64_t answer)
 {
@@ -97,6 +92,24 @@ static void need(const char *call, int64_t answer)
         fprintf(stderr, "bench: %s is refused with %" PRId64 "\n", call, -answer);
         exit(1);
     }
+}
+
+static void open_ledger(void)
+{
+    need("open", bbp_open(1, BLOCKS, ledger, sizeof ledger));
+}
+
+static void open_ledgers(void)
+{
+    for (int i = 0; i < LEDGERS; i++)
+        need("open", bbp_open(1, BLOCKS, ledgers[i], sizeof ledgers[i]));
+}
+
+/* One post is too short for the clock. */
+static void post_one_each(void)
+{
+    for (int i = 0; i < LEDGERS; i++)
+        need("post", bbp_post(ledgers[i], sizeof ledgers[i], 1, BLOCKS, 3, 100, sums, 16));
 }
 
 static void post_all(void)
@@ -127,16 +140,17 @@ static void nothing(void)
 {
 }
 
-static void time_call(const char *what, void (*before)(void), void (*call)(void))
+/* Prints the time of one call, of so many that `calls` makes. */
+static void time_calls(const char *what, int count, void (*before)(void), void (*calls)(void))
 {
     double best = 1e9;
     for (int i = 0; i < 200; i++) {
         before();
         double began = seconds();
-        call();
+        calls();
         best = least(best, seconds() - began);
     }
-    printf("%-52s %9.1f us\n", what, 1e6 * best);
+    printf("%-52s %9.2f us\n", what, 1e6 * best / count);
 }
 
 static void compare_books(void)
@@ -144,10 +158,11 @@ static void compare_books(void)
     for (uint64_t i = 0; i < BBP_ROWS * BLOCKS; i++)
         list[2 * i] = (uint8_t)i, list[2 * i + 1] = (uint8_t)(i / 256);
     need("sheet write", bbp_sheet_write(1, BLOCKS, list, sizeof list, sheet, sizeof sheet));
-    time_call("post of all 1,792 tickets, one by one", open_ledger, post_all);
-    time_call("reading a sheet of 1,792 tickets", nothing, read_sheet);
-    time_call("posting a sheet of 1,792 tickets", open_ledger, post_sheet);
-    time_call("closing a full ledger of C = 256", nothing, close_ledger);
+    time_calls("posting one ticket", LEDGERS, open_ledgers, post_one_each);
+    time_calls("post of all 1,792 tickets, one by one", 1, open_ledger, post_all);
+    time_calls("reading a sheet of 1,792 tickets", 1, nothing, read_sheet);
+    time_calls("posting a sheet of 1,792 tickets", 1, open_ledger, post_sheet);
+    time_calls("closing a full ledger of C = 256", 1, nothing, close_ledger);
 }
 
 int main(void)

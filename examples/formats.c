@@ -68,6 +68,20 @@ static void post_rest(void)
         }
 }
 
+/* The row sums added up modulo 2^128, as closing adds them. */
+static void print_total(void)
+{
+    uint8_t total[BBP_SUM_SIZE] = {0};
+    for (int row = 0; row < BBP_ROWS; row++) {
+        unsigned carry = 0;
+        for (int i = 0; i < BBP_SUM_SIZE; i++, carry >>= 8) {
+            carry += (unsigned)total[i] + ledger[BBP_ROW_SUM_AT(row) + i];
+            total[i] = (uint8_t)carry;
+        }
+    }
+    print_bytes("total of its row sums", total, sizeof total);
+}
+
 int main(void)
 {
     print_sum(P, C, 0, 0);
@@ -78,6 +92,7 @@ int main(void)
     post_sheet();
     post_rest();
     print_bytes("ledger with every ticket posted", ledger, sizeof ledger);
+    print_total();
     printf("its closing: position, d, digits\n");
     print_closing(P, ledger);
     for (uint64_t row = 0; row < BBP_ROWS; row++)

@@ -1,4 +1,4 @@
-/* What the programs over bbp.h share: numbers among the arguments, refusals in words, and the closing line. */
+/* What the programs over bbp.h share: numbers in arguments and in bytes, refusals in words, and the closing line. */
 #ifndef PROGRAM_H
 #define PROGRAM_H
 
@@ -19,6 +19,15 @@ static inline uint64_t number(const char *text)
         fprintf(stderr, "not a number of at most 64 bits: %s\n", text);
         exit(2);
     }
+    return value;
+}
+
+/* A number in bytes, the lowest first. */
+static inline uint64_t number_at(const uint8_t *at, int bytes)
+{
+    uint64_t value = 0;
+    while (bytes-- > 0)
+        value = value << 8 | at[bytes];
     return value;
 }
 
@@ -48,13 +57,18 @@ static inline int64_t finished(const char *call, int64_t answer)
     return answer;
 }
 
+/* What the system did not do, in words; ends the program. */
+static inline void fail(const char *what)
+{
+    perror(what);
+    exit(1);
+}
+
 /* Standard output that could not be written ends the program. */
 static inline void end_output(void)
 {
-    if (fflush(stdout) != 0 || ferror(stdout)) {
-        perror("standard output");
-        exit(1);
-    }
+    if (fflush(stdout) != 0 || ferror(stdout))
+        fail("standard output");
 }
 
 /* Closes a ledger and prints position, number of digits, digits. */

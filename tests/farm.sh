@@ -1,19 +1,12 @@
 #!/usr/bin/env bash
-# farm.sh FARM DIRECTORY - a run by processes: worked, stopped, taken up again with damaged files; arguments that are no
-# numbers, output that cannot be written, refusals. ENGINE is the library that the farm is built with.
+# farm.sh FARM DIRECTORY - a run by processes: worked, stopped, taken up again with damaged files; the ledger kept;
+# arguments that are no numbers, output that cannot be written, refusals. ENGINE is the library that it is built with.
 set -u
 farm=$1
 directory=$2
 name=farm
 line="1000 29 349F1C09B075372C980991B7B25D4"
 . "$(dirname "$0")/checks.sh"
-
-# flip FILE OFFSET - turns over the lowest bit of a byte.
-flip() {
-    local byte
-    byte=$(od -An -tu1 -j "$2" -N 1 "$1")
-    printf "\\$(printf %o $((byte ^ 1)))" | dd of="$1" bs=1 seek="$2" conv=notrunc status=none
-}
 
 # damaged WHAT TICKET COMMAND.. - after the command the digits are right, and that ticket alone is worked again.
 damaged() {
@@ -42,6 +35,13 @@ damages() {
     damaged "a checksum cut short" "$ticket" truncate -s 7 "$checksum"
     damaged "a checksum lost" "$ticket" rm "$checksum"
     damaged "a sheet lost" "$ticket" rm "$sheet"
+}
+
+# The bytes of the run's full ledger, in hexadecimal; a row's sum is that of its one ticket where C is 1.
+full_ledger() {
+    printf '%s' e803000000000000 0500 000000000000
+    sed -n 's/^ticket 1000 1 [0-6] 0 [0-9a-f]* //p' tests/vectors.txt | tr -d '\n'
+    for _ in 0 1 2 3 4 5 6; do printf '1f%062d' 0; done
 }
 
 # Another ticket's sheet with its own checksum, both whole.
@@ -96,10 +96,14 @@ stopped() {
 
 rm -rf "$directory"
 same "a run" "$("$farm" 1000 5 "$directory" 2)" "$line"
-same "files kept" "$(find "$directory" -type f | wc -l)" 70
+same "files kept" "$(find "$directory" -type f | wc -l)" 71
+same "the ledger kept" "$(od -An -v -tx1 "$directory/1000-5.ledger" | tr -d ' \n')" "$(full_ledger)"
 damages
 damaged "a sheet in another's place" 1000-5-1-2 misplace
 unwritable "$farm" 1000 5 "$directory"
+rm "$directory/1000-5.ledger"
+mkdir "$directory/1000-5.ledger"
+ends 1 "$farm" 1000 5 "$directory"
 
 stopped TERM 143
 stopped INT 130
@@ -118,5 +122,6 @@ for call in open sheet_write sheet_read sheet_post close; do
     rm -rf "$directory"
     refusing tools/farm.c bbp_$call 5 1 "$directory"
 done
+same "the size of the ledger kept before a refused closing" "$(wc -c <"$directory/5-1.ledger")" 352
 rm -rf "$directory"
 echo "farm: $checks checks"

@@ -49,8 +49,8 @@ same "acceptance 1000" "$("$scratch/acceptance" 1000)" "1000 29 $digits"
 cat >"$scratch/version.c" <<'END'
 #include <bbp.h>
 #include <stdio.h>
-#if BBP_VERSION < 1000000
-#error "older than the first version"
+#if BBP_VERSION < 2000000
+#error "older than the ledger with row sums"
 #endif
 int main(void) { printf("%s %ld\n", BBP_VERSION_STRING, (long)BBP_VERSION); return 0; }
 END

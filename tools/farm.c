@@ -8,6 +8,10 @@
  * where it was: tickets whose sheet is there, reads well and has its checksum
  * are not worked again. The processes end when the farm ends, however that
  * was stopped.
+ *
+ * Before it is closed, the ledger is kept in the directory too, as
+ * POSITION-BLOCKS.ledger. Where the closing looks odd, `acceptance --rows` shows
+ * in it which row differs; without that row's sheets the farm works it again.
  */
 #define _POSIX_C_SOURCE 200809L
 
@@ -41,10 +45,13 @@ struct kept {
     char sheet[PATH_ROOM], checksum[PATH_ROOM];
 };
 
-static void fail(const char *what)
+/* Ends the program where a name, of the length that snprintf gives, did not fit. */
+static void need_room(int len)
 {
-    perror(what);
-    exit(1);
+    if (len < 0 || len >= PATH_ROOM) {
+        fputs("the directory's name is too long\n", stderr);
+        exit(1);
+    }
 }
 
 static struct kept kept_files(uint64_t row, uint64_t block)
@@ -52,20 +59,9 @@ static struct kept kept_files(uint64_t row, uint64_t block)
     struct kept kept;
     int len = snprintf(kept.sheet, PATH_ROOM, "%s/%" PRIu64 "-%" PRIu64 "-%" PRIu64 "-%" PRIu64 ".sheet", farm.directory,
                        farm.p, farm.c, row, block);
-    int longer = snprintf(kept.checksum, PATH_ROOM, "%s.fnv", kept.sheet);
-    if (len < 0 || len >= PATH_ROOM || longer < 0 || longer >= PATH_ROOM) {
-        fputs("the directory's name is too long\n", stderr);
-        exit(1);
-    }
+    need_room(len);
+    need_room(snprintf(kept.checksum, PATH_ROOM, "%s.fnv", kept.sheet));
     return kept;
-}
-
-static uint64_t number_at(const uint8_t *at, int bytes)
-{
-    uint64_t value = 0;
-    while (bytes-- > 0)
-        value = value << 8 | at[bytes];
-    return value;
 }
 
 /* FNV-1a of 64 bits, little-endian. Each step is one-to-one, so a change within one byte always shows. */
@@ -208,6 +204,13 @@ static void post_all(uint8_t *ledger)
         }
 }
 
+static void keep_ledger(const uint8_t *ledger)
+{
+    char path[PATH_ROOM];
+    need_room(snprintf(path, PATH_ROOM, "%s/%" PRIu64 "-%" PRIu64 ".ledger", farm.directory, farm.p, farm.c));
+    keep(path, ledger, BBP_LEDGER_SIZE);
+}
+
 static uint64_t cores(void)
 {
     long count = sysconf(_SC_NPROCESSORS_ONLN);
@@ -239,6 +242,7 @@ int main(int argc, char **argv)
         fail(farm.directory);
     work_missing();
     post_all(ledger);
+    keep_ledger(ledger);
     print_closing(farm.p, ledger);
     return 0;
 }
