@@ -1,5 +1,6 @@
 // The ledger: its bytes, opening it and posting a ticket.
 pub mod sums;
+
 use run::Answer;
 use run::Refusal;
 use series::Series;
