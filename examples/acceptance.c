@@ -17,8 +17,8 @@
  *
  *     row 3 ledger aaaf9647.. worked aaaf9647..
  *
- * with ` differs` at its end where the two differ. Rows are shown in ascending
- * order. The status is then 3, and 0 where no row shown differs.
+ * with ` differs` at its end where the two differ; the status is then 3, and 0
+ * where no row shown differs. Rows are shown in ascending order.
  *
  * A refusal or a failure ends with status 1, arguments that are not these with 2.
  */

@@ -4,7 +4,7 @@ use mathlib.Core.Path.{_≡_, refl, sym, ap, ap₂, _∙_}
 use mathlib.Core.List.{List, []}
 use Prim.Native.Nat.{ℕ, _<_}
 use native.Mathlib.Omega.{arith}
-use lib.IntN.{ℤ, negsuc}
+use lib.IntN.{ℤ}
 use lib.ListN.{length, replicate}
 use Rattle.algebra.specs.Sum.{sum}
 use Rattle.algebra.specs.Test.{allBelow}
@@ -14,11 +14,11 @@ use Rattle.series.specs.Bellard.{bellard}
 use Rattle.interval.specs.Interval.{isCharged, charges, low, high}
 use Rattle.interval.specs.Digits.{settledUpTo, settled, hexDigit, hexText, lowDigits}
 use Rattle.run.specs.Refusal.{refusal, answer}
-use Rattle.run.specs.Run.{limitsOf, inRange, isTicket}
+use Rattle.run.specs.Run.{limitsOf, isTicket}
 use Rattle.ledger.specs.Ledger.{totalOf, posIn}
 use Rattle.ledger.specs.Plain.{plainView, fullPlain, fullLedger}
-use Rattle.ledger.proofs.Image.{Good, pos-encode}
-use Rattle.closing.specs.Closing.{settledAt, digitsAt, closeRefusal, closingAnswer, closingBytes, closeAnswer, closeBytes}
+use Rattle.ledger.proofs.Image.{pos-encode}
+use Rattle.closing.specs.Closing.{settledAt, digitsAt, closeRefusal, closingAnswer, closingBytes, closeBytes}
 use Rattle.closing.proofs.Closing.{ledger-size}
 use Rattle.closing.proofs.Encoded.{good-full, answer-encoded, bytes-encoded}
 use Rattle.closing_line.specs.Decimal.{decimalWithin}

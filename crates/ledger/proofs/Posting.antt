@@ -2,19 +2,18 @@
 -- Assumes nothing.
 use mathlib.Core.Path.{_≡_, refl, sym, ap, _∙_}
 use mathlib.Core.Bool.{true, false, not, _&&_}
-use mathlib.Core.List.{List, _++_}
+use mathlib.Core.List.{List}
 use Prim.Native.Nat.{ℕ, _+_, _*_, _-_, _/_, _%_, _^_, _≤_, _<_}
 use native.Mathlib.Nat.{div-add-mod', mod-lt, div-lt-iff-lt-mul, mul-le-mul-right, one-mul, mod-eq-of-lt}
 use native.Mathlib.Omega.{arith}
 use borrow.Author.Tests.{eqb-true, eqb-false, eq-eqb, ne-eqb, not-false}
 use lib.Dec.{eqb}
 use lib.IntN.{pos}
-use lib.ListN.{length, getD, set, take, drop}
+use lib.ListN.{length, getD}
 use lib.Pow.{pow-add, pow-pos}
 use lib.Seq.{take-all}
 use Rattle.algebra.proofs.Booleans.{and-left, and-right, neither}
-use Rattle.words.specs.Bytes.{bytesOf, valueOf, field}
-use Rattle.series.specs.Series.{modulus}
+use Rattle.words.specs.Bytes.{valueOf, field}
 use Rattle.run.specs.Refusal.{refusal}
 use Rattle.run.specs.Run.{Limits, inRange, isTicket}
 use Rattle.run.specs.Answers.{answerOf}

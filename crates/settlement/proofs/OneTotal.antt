@@ -15,11 +15,11 @@ use Rattle.series.specs.Bellard.{bellard}
 use Rattle.run.specs.Refusal.{answer}
 use Rattle.run.specs.Run.{Limits, limitsOf, inRange}
 use Rattle.run.proofs.Range.{ticket-row}
-use Rattle.ledger.specs.Ledger.{View, viewOf, ledgerSize, fresh, totalOf, totalIn}
+use Rattle.ledger.specs.Ledger.{View, viewOf, ledgerSize, totalOf, totalIn}
 use Rattle.ledger.specs.Plain.{Plain, Entry, plainView, opened, admit, including, adding}
 use Rattle.ledger.proofs.RowSums.{adding-here, adding-else}
 use Rattle.ledger.proofs.Image.{total-encode}
-use Rattle.sheet.specs.Posts.{Post, postRefusal, postEntries, postsBytes, plainPost, plainPosts, plainAnswer, plainAnswers}
+use Rattle.sheet.specs.Posts.{Post, postRefusal, postEntries, plainPost, plainPosts, plainAnswer, plainAnswers}
 use Rattle.sheet.proofs.Simulation.{Ready, good-opened, posts-good, post-ready, ledger-is, answers-are}
 use Rattle.closing.specs.Closing.{closingAnswer, closingBytes, closeAnswer, closeBytes}
 use Rattle.closing.proofs.Encoded.{answer-encoded, bytes-encoded}

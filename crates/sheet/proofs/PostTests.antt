@@ -9,7 +9,7 @@ use borrow.Author.Tests.{eqb-true, eq-eqb, ne-eqb, lt-ltb, le-ltb, not-false}
 use lib.Dec.{eqb}
 use lib.IntN.{pos, negsuc}
 use lib.ListN.{length}
-use Rattle.algebra.proofs.Booleans.{and-left, and-right, and-both}
+use Rattle.algebra.proofs.Booleans.{and-left, and-right}
 use Rattle.words.specs.Bytes.{field}
 use Rattle.run.specs.Refusal.{Test, _⇐_, refusal, answer}
 use Rattle.run.specs.Run.{Limits, inRange, isTicket}

@@ -1,18 +1,23 @@
 -- The engine is none of the wrong engines. Closings part from it at p = 1, which settles thirty digits, or at p = 5, which settles
 -- twenty-nine; tickets and posts at p = 1 with one block, in rows 0 and 1.
 -- Assumes nothing.
-use mathlib.Core.Path.{_≡_, refl, sym, ap, _∙_}
-use mathlib.Core.Bool.{Bool, true, false, not}
+use mathlib.Core.Path.{_≡_, refl, sym, ap, ap₂, _∙_}
+use mathlib.Core.Bool.{Bool, true, false, not, cond}
 use mathlib.Core.List.{List, [], _∷_, _++_}
-use Prim.Native.Nat.{ℕ, _-_}
+use Prim.Native.Nat.{ℕ, _+_, _*_, _-_, _/_, _%_, _^_, _<_}
 use native.Mathlib.Omega.{arith}
+use borrow.Author.Tests.{eq-eqb, not-true}
+use lib.Dec.{eqb}
 use lib.IntN.{ℤ, pos, negsuc, pos-ne-negsuc}
 use lib.ListN.{getD, drop, replicate}
 use Rattle.algebra.specs.Sum.{sum}
 use Rattle.algebra.specs.Test.{allBelow}
+use Rattle.algebra.proofs.Booleans.{not-both}
+use Rattle.algebra.proofs.Below.{all-at, all-true}
+use Rattle.algebra.proofs.Sums.{sum-ext}
 use Rattle.algebra.specs.Whole.{residue, sameℤ}
 use Rattle.words.specs.Bytes.{bytesOf, valueOf, field}
-use Rattle.series.specs.Series.{size, isAdded, termCount, onSide, rowSum, overRows, sideSum, sizesSum, rangeSum}
+use Rattle.series.specs.Series.{modulus, size, isAdded, termCount, onSide, rowSum, overRows, sideSum, sizesSum, rangeSum}
 use Rattle.series.specs.Bellard.{bellard}
 use Rattle.interval.specs.Interval.{isCharged, charges, low, high}
 use Rattle.interval.specs.Digits.{settledUpTo, settled, hexDigit, hexText, lowDigits}
@@ -21,16 +26,20 @@ use Rattle.run.specs.Refusal.{_⇐_, refusal, answer}
 use Rattle.run.proofs.Answering as answering
 use Rattle.run.specs.Run.{inRange, isTicket, bound, ticketSum}
 use Rattle.ticket.specs.Work.{workRefusal, workBytes}
-use Rattle.ledger.specs.Ledger.{fresh, enter, mark, addTo, rowSumIn, viewOf, posIn, blocksIn, totalIn, bitIn, markIn, inOrder}
+use Rattle.ledger.specs.Ledger.{View, fresh, enter, mark, addTo, rowSumIn, totalOf, viewOf, posIn, blocksIn, totalIn, bitIn, markIn, inOrder}
+use Rattle.ledger.specs.Plain.{Plain, opened, encode}
+use Rattle.ledger.proofs.Image.{Good, pos-encode, sum-encode}
 use Rattle.ledger.specs.Calls.{ticketRefusal, ticketBytes}
-use Rattle.sheet.specs.Posts.{Post, ticket, postBytes, postsBytes, postRefusal, postEntries}
-use Rattle.closing.specs.Closing.{settledAt, digitsAt, closeRefusal, closingAnswer, closeAnswer, closeBytes}
-use Rattle.settlement.specs.Settlement.{Filled, ClosesWith, allSums}
+use Rattle.sheet.specs.Posts.{Post, ticket, postBytes, postsBytes, postRefusal, postEntries, plainPosts}
+use Rattle.sheet.proofs.Simulation.{good-opened, posts-good}
+use Rattle.closing.specs.Closing.{settledAt, digitsAt, closeRefusal, closingAnswer, closingBytes, closeAnswer, closeBytes}
+use Rattle.settlement.specs.Settlement.{Filled, ClosesWith, rowSums, allSums}
 use Rattle.settlement.specs.Figures.{firstDigits}
 use Rattle.settlement.proofs.Theorem.{demand3}
+use Rattle.settlement.proofs.Filling.{kept-posts, kept-opened}
 use Rattle.settlement.proofs.Filler.{filled-exists}
 use Rattle.settlement.proofs.FirstDigits.{closes-with, first-digits}
-use Rattle.wrong_engines.specs.WrongEngines.{lim, AnswersAs, LeavesAs, sameDigits, WorksAs, oneSum, PostsAs, doesNothing, leftBy, fillEntry, fillsFirst, alwaysNine, nineUnseen, alwaysEight, madeUp, oneLess, wrongSize, wordBound, towardZero, settledTowardZero, Met, ShutOut}
+use Rattle.wrong_engines.specs.WrongEngines.{lim, AnswersAs, LeavesAs, sameDigits, WorksAs, oneSum, PostsAs, doesNothing, leftBy, fillEntry, fillsFirst, alwaysNine, nineUnseen, alwaysEight, madeUp, oneLess, byTotal, withoutRow, withoutCarry, wrongSize, wordBound, towardZero, settledTowardZero, Met, ShutOut}
 
 -- 6A8885A308D313198A2E03707344A, the digits from position 5 on that a run settles
 abbrev fifthDigits : List ℕ
@@ -142,6 +151,90 @@ one-set-of-digits w same =
     let z : _≡_ {A = ℕ} 50 54 = ap (λ (l : List ℕ). getD l 0 0) (sym (at-1 .1) ∙ a ∙ sym b ∙ at-5 .1) in
     omega (arith, z)
 
+-- ---- totals: at p = 1 each row's sum is that of its one ticket
+
+-- the plain ledger of the filled run
+filled-1 : Plain
+filled-1 = plainPosts lim (opened 1 1) (posts 1)
+
+good-1 : Good lim filled-1
+unfolding filled-1 inRange
+good-1 = posts-good lim (opened 1 1) (posts 1) (good-opened lim 1 1 (omega arith) refl)
+
+bytes-1 : ledger 1 ≡ encode lim filled-1
+unfolding ledger filled-1 inRange
+bytes-1 = demand3 1 1 refl (posts 1) .ledger
+
+sums-1 : (row : ℕ) → row < 7 → rowSumIn (ledger 1) row ≡ rowSums bellard 1 1 row
+unfolding filled-1 inRange
+sums-1 row h =
+    ap (λ (l : List ℕ). rowSumIn l row) bytes-1 ∙ sum-encode lim filled-1 good-1 row h ∙ demand3 1 1 refl (posts 1) .rows (filled 1) row h
+
+position-1 : posIn (ledger 1) ≡ 1
+unfolding filled-1 inRange
+position-1 =
+    ap posIn bytes-1 ∙ pos-encode lim filled-1 good-1
+    ∙ kept-posts bellard 1 1 (opened 1 1) (posts 1) (kept-opened bellard 1 1 (omega arith) refl) (filled 1 .right) .run-p
+
+-- where a ledger is not refused, another total could bring 9 alone
+last-test : (c : Bool) → refusal ((9 ⇐ c) ∷ []) ≡ cond c 9 0
+unfolding refusal
+last-test c = refl
+
+by-total : (v : View) (a b : ℕ) (digits : List ℕ) → closeRefusal bellard v a digits ≡ 0
+    → closeRefusal bellard v b digits ≡ cond (eqb (settledAt bellard (v .p) b) 0) 9 0
+unfolding closeRefusal
+by-total v a b digits e =
+    let e₁ = answering.passes 0 _ _ e in
+    let e₅ = answering.passes 4 _ _ (e₁ .1) in
+    let e₈ = answering.passes 7 _ _ (e₅ .1) in
+    answering.skipped 1 _ _ (e₁ .0) ∙ answering.skipped 5 _ _ (e₅ .0) ∙ answering.skipped 8 _ _ (e₈ .0) ∙ last-test _
+
+-- what a closing of the run by the total t would leave
+abbrev left : ℕ → List ℕ
+left t =
+    cond (eqb (cond (eqb (settledAt bellard 1 t) 0) 9 0) 0) (digitsAt bellard 1 t (settledAt bellard 1 t) ++ drop (settledAt bellard 1 t) zeros) zeros
+
+module _ (T : (ℕ → ℕ) → ℕ) (t : ℕ) (is : T (rowSumIn (ledger 1)) ≡ t) (same : LeavesAs (byTotal T)) where
+  first-left : firstDigits ++ drop 30 zeros ≡ left t
+  unfolding ledger zeros inRange byTotal closingBytes viewOf
+  first-left =
+      let r = by-total (viewOf lim (ledger 1)) _ t zeros (not-refused 1 30 (at-1 .0) .0) in
+      sym (at-1 .1) ∙ same 1 1 refl (posts 1) (filled 1) zeros refl ∙ rw (is, r, position-1) refl
+
+-- sums that agree with the run's below 7 have its totals
+without-row : (row : ℕ) → withoutRow row (rowSumIn (ledger 1)) ≡ withoutRow row (rowSums bellard 1 1)
+unfolding withoutRow totalOf
+without-row row =
+    ap (λ (n : ℕ). n % modulus) (sum-ext _ _ 0 7 (λ r l h. ap (λ (x : ℕ). cond (eqb row r) 0 x) (sums-1 r (omega arith))))
+
+without-carry : withoutCarry (rowSumIn (ledger 1)) ≡ withoutCarry (rowSums bellard 1 1)
+unfolding withoutCarry
+without-carry =
+    ap₂ (λ (m n : ℕ). m % 2 ^ 64 * 2 ^ 64 + n % 2 ^ 64) (sum-ext _ _ 0 7 (λ r l h. ap (λ (x : ℕ). x / 2 ^ 64) (sums-1 r (omega arith))))
+    (sum-ext _ _ 0 7 (λ r l h. ap (λ (x : ℕ). x % 2 ^ 64) (sums-1 r (omega arith))))
+
+-- digit 14 would be C and not D
+no-carry : LeavesAs (byTotal withoutCarry) → ⊥
+unfolding zeros withoutCarry rowSums ticketSum rangeSum bound size termCount rowSum sum onSide isAdded residue settledAt digitsAt settled settledUpTo low high sameℤ charges sideSum overRows isCharged lowDigits hexText hexDigit
+no-carry same =
+    let z : _≡_ {A = ℕ} 68 67 = ap (λ (l : List ℕ). getD l 14 0) (first-left withoutCarry _ without-carry same) in
+    omega (arith, z)
+
+-- whichever row is left out, one of the first three digits would be another
+abbrev agrees : ℕ → ℕ → Bool
+agrees row i = eqb (getD (firstDigits ++ drop 30 zeros) i 0) (getD (left (withoutRow row (rowSums bellard 1 1))) i 0)
+
+parts : allBelow 7 (λ row. not (allBelow 3 (agrees row))) ≡ true
+unfolding zeros allBelow withoutRow totalOf rowSums ticketSum rangeSum bound size termCount rowSum sum onSide isAdded residue settledAt digitsAt settled settledUpTo low high sameℤ charges sideSum overRows isCharged lowDigits hexText hexDigit
+parts = refl
+
+row-left-out : (row : ℕ) → row < 7 → LeavesAs (byTotal (withoutRow row)) → ⊥
+row-left-out row h same =
+    not-both (allBelow 3 (agrees row))
+    (all-true 3 (agrees row) (λ i l. eq-eqb _ _ (ap (λ (d : List ℕ). getD d i 0) (first-left (withoutRow row) _ (without-row row) same))))
+    (not-true _ (all-at 7 (λ row. not (allBelow 3 (agrees row))) parts row h))
+
 -- ---- tickets: row 0 and row 1 at p = 1 have sums with other top bytes
 
 one-sum : (w : List ℕ) → WorksAs (oneSum w) → ⊥
@@ -182,6 +275,8 @@ shut-out = record {
   made-up = made-up;
   one-less = one-less;
   one-set-of-digits = one-set-of-digits;
+  row-left-out = row-left-out;
+  no-carry = no-carry;
   one-sum = one-sum;
   does-nothing = does-nothing;
   fills-first = fills-first;

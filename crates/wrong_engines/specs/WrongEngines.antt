@@ -1,13 +1,14 @@
 -- The wrong engines that document 01 names under "Traps of this arithmetic" and "For those who test", where no edit of the code can be
--- them: each is written down by what it answers or leaves, and `ShutOut` says that the engine is none of them. Nothing of the engine
--- rests on these definitions.
+-- them, and wrong totals of the row sums: each is written down by what it answers or leaves, and `ShutOut` says that the engine is none of
+-- them. Nothing of the engine rests on these definitions.
 use mathlib.Core.Path.{_≡_}
 use mathlib.Core.Bool.{Bool, true, not, cond, _||_}
 use mathlib.Core.List.{List, [], _∷_, _++_, foldl}
-use Prim.Native.Nat.{ℕ, zero, suc, _+_, _*_, _-_, _/_, _%_, _^_}
+use Prim.Native.Nat.{ℕ, zero, suc, _+_, _*_, _-_, _/_, _%_, _^_, _<_}
 use lib.Dec.{eqb}
 use lib.IntN.{ℤ, pos, negsuc, negℤ, subℕ}
 use lib.ListN.{length, drop}
+use Rattle.algebra.specs.Sum.{sum}
 use Rattle.algebra.specs.Test.{allBelow}
 use Rattle.algebra.specs.Whole.{sameℤ}
 use Rattle.series.specs.Series.{rowCount, termCount}
@@ -16,10 +17,10 @@ use Rattle.interval.specs.Interval.{unitAt}
 use Rattle.run.specs.Refusal.{_⇐_, refusal, answer}
 use Rattle.run.specs.Run.{Limits, limitsOf, inRange, isTicket, bound}
 use Rattle.ticket.specs.Work.{workBytes}
-use Rattle.ledger.specs.Ledger.{ledgerSize, viewOf, posIn, blocksIn, totalIn, bitIn, inOrder, fresh, enter}
+use Rattle.ledger.specs.Ledger.{ledgerSize, viewOf, posIn, blocksIn, rowSumIn, totalOf, totalIn, bitIn, inOrder, fresh, enter}
 use Rattle.ledger.specs.Plain.{Entry}
 use Rattle.sheet.specs.Posts.{Post, postRefusal, postEntries, postBytes, postsBytes}
-use Rattle.closing.specs.Closing.{lowOf, highOf, settledAt, closeRefusal, closeAnswer, closeBytes}
+use Rattle.closing.specs.Closing.{lowOf, highOf, settledAt, closeRefusal, closingBytes, closeAnswer, closeBytes}
 use Rattle.settlement.specs.Settlement.{Filled, allSums}
 
 abbrev pub lim : Limits
@@ -67,6 +68,18 @@ oneLess s digits = answer (closeRefusal bellard (viewOf lim s) (totalIn lim s) d
 -- one set of digits for all positions
 abbrev pub sameDigits : List ℕ → List ℕ → List ℕ → List ℕ
 sameDigits w s digits = w ++ drop (length w) digits
+
+-- a closing by another total than that of the row sums: T makes it of the sums (document 02, slip 1)
+unfoldable pub byTotal : ((ℕ → ℕ) → ℕ) → List ℕ → List ℕ → List ℕ
+byTotal T s digits = closingBytes bellard (viewOf lim s) (T (rowSumIn s)) digits
+
+-- a row is left out
+unfoldable pub withoutRow : ℕ → (ℕ → ℕ) → ℕ
+withoutRow row sums = totalOf lim (λ r. cond (eqb row r) 0 (sums r))
+
+-- the two words are added up apart, with no carry from the lower to the upper
+unfoldable pub withoutCarry : (ℕ → ℕ) → ℕ
+withoutCarry sums = sum (λ r. sums r / 2 ^ 64) 0 7 % 2 ^ 64 * 2 ^ 64 + sum (λ r. sums r % 2 ^ 64) 0 7 % 2 ^ 64
 
 -- ---- tickets
 
@@ -136,6 +149,8 @@ pub record ShutOut : Type 0 where
   pub made-up : (d : ℕ) → AnswersAs (madeUp d) → ⊥
   pub one-less : AnswersAs oneLess → ⊥
   pub one-set-of-digits : (w : List ℕ) → LeavesAs (sameDigits w) → ⊥
+  pub row-left-out : (row : ℕ) → row < 7 → LeavesAs (byTotal (withoutRow row)) → ⊥
+  pub no-carry : LeavesAs (byTotal withoutCarry) → ⊥
   pub one-sum : (w : List ℕ) → WorksAs (oneSum w) → ⊥
   pub does-nothing : PostsAs doesNothing → ⊥
   pub fills-first : PostsAs fillsFirst → ⊥

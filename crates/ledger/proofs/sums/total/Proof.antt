@@ -1,6 +1,6 @@
 -- `ledger::sums::total` meets its contract: after each turn the sums of the rows passed are added up, modulo 2 ^ 128.
 -- Assumes nothing.
-use mathlib.Core.Path.{_≡_, refl, sym}
+use mathlib.Core.Path.{_≡_}
 use Prim.Native.Nat.{_-_, _%_, _≤_}
 use native.Mathlib.Omega.{arith}
 use borrow.Author.Needs.{needs}
