@@ -46,6 +46,7 @@ posIn s = field s 0 8
 unfoldable pub blocksIn : List ℕ → ℕ
 blocksIn s = field s 8 2
 
+-- the sum of a row
 unfoldable pub rowSumIn : List ℕ → ℕ → ℕ
 rowSumIn s row = field s (sumAt row) 16
 

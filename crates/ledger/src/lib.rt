@@ -139,7 +139,8 @@ pub fn enter(f: Series, ledger: &mut [u8], row: usize, block: usize, x: Wide)
     requires { ⌜ (length (now ledger) ≡ ledgerSize (limitsOf (formulaOf f))) × (row < rowCount (formulaOf f)) × (block < 256) × (bitIn (limitsOf (formulaOf f)) (now ledger) row block ≡ false) ⌝ }
     ensures { λ _. ⌜ now (ledger .exit) ≡ definition.enter (limitsOf (formulaOf f)) (now (ledger .entry)) row block (joined (x .hi) (x .lo)) ⌝ }
 {
-    let sums = sums::add_to(sums::get(f, ledger), row, x);
+    let mut sums = sums::get(f, ledger);
+    sums[row] = words::add(sums[row], x);
     set_bit(f, ledger, row, block);
     sums::put(f, ledger, sums);
 }

@@ -2,7 +2,7 @@
 use series::Series;
 use words::Wide;
 ghost use mathlib.Core.Path.{_≡_};
-ghost use Prim.Native.Nat.{ℕ, _+_, _%_, _<_};
+ghost use Prim.Native.Nat.{ℕ, _%_};
 ghost use lib.ListN.{length};
 ghost use Rattle.algebra.specs.Sum.{sum};
 ghost use Rattle.words.specs.Words.{joined};
@@ -10,7 +10,6 @@ ghost use Rattle.series.specs.Names.{formulaOf};
 ghost use Rattle.series.specs.Series.{rowCount, modulus};
 ghost use Rattle.run.specs.Run.{limitsOf};
 ghost use Rattle.ledger.specs.Ledger.{ledgerSize};
-ghost use Rattle.ledger.specs.Plain.{adding};
 ghost use Rattle.ledger.specs.RowSums.{valueAt, heldIn, withSums};
 
 // The sums in a ledger: as many are read as there are rows.
@@ -40,16 +39,6 @@ pub fn put(f: Series, s: &mut [u8], sums: [Wide; 7])
         words::put_wide(s, 16 + 16 * row, sums[row]);
         row += 1;
     }
-}
-
-// The sums with x added to that of one row.
-pub fn add_to(sums: [Wide; 7], row: usize, x: Wide) -> [Wide; 7]
-    requires { ⌜ row < 7 ⌝ }
-    ensures { λ r. ⌜ ((i : ℕ) → valueAt r i ≡ adding row (joined (x .hi) (x .lo)) (valueAt sums) i) ⌝ }
-{
-    let mut changed = sums;
-    changed[row] = words::add(sums[row], x);
-    changed
 }
 
 // The sums of all rows, added up.

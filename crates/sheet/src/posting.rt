@@ -76,8 +76,7 @@ pub fn enter_all(f: Series, ledger: &mut [u8], s: &[u8])
     while i < e {
         let row = contents::row(s, i) as usize;
         let sum = words::get_wide(s, 16 + 4 * e + 16 * i);
-        let changed = ledger::sums::add_to(sums, row, sum);
-        sums = changed;
+        sums[row] = words::add(sums[row], sum);
         ledger::set_bit(f, ledger, row, contents::block(s, i) as usize);
         i += 1;
     }

@@ -2,7 +2,7 @@
 -- and no later one is marked.
 -- Assumes nothing.
 use mathlib.Core.Path.{_≡_, refl, _∙_}
-use Prim.Native.Nat.{_≤_, _-_}
+use Prim.Native.Nat.{_-_, _≤_, _<_}
 use native.Mathlib.Omega.{arith}
 use borrow.Author.Needs.{needs}
 use denote.Ref.{now}
@@ -12,13 +12,14 @@ use Rattle.series.specs.Names.{formulaOf}
 use Rattle.series.proofs.FewRows.{few-rows}
 use Rattle.run.specs.Run.{limitsOf}
 use Rattle.ledger.specs.RowSums.{valueAt}
+use Rattle.ledger.proofs.RowSums.{one-added}
 use Rattle.sheet.proofs.Admitting.{Entered, start, row-below, may-mark, turn, finish}
 use Rattle.sheet.proofs.posting.enter_all.Statement.{statement}
 use Rattle.sheet.proofs.posting.enter_all.Tie as tie
 
 abbrev Inv-loop : tie.InvT-loop
 Inv-loop f ledger₀ s e sums₀ i₀ ledger sums i =
-    (i ≤ e) × (length ledger ≡ length ledger₀) × Entered (limitsOf (formulaOf f)) s ledger₀ e ledger (valueAt sums) i
+    (i ≤ e) × (length ledger ≡ length ledger₀) × (length sums ≡ 7) × Entered (limitsOf (formulaOf f)) s ledger₀ e ledger (valueAt sums) i
 
 abbrev μ-loop : tie.MeasureT-loop
 μ-loop f ledger₀ s e sums₀ i₀ ledger sums i = e - i
@@ -35,7 +36,7 @@ loop-holds c =
     let count = c .before .before in
     let known = count .before .before in
     let given = known .before .pre in
-    (omega arith, refl, start _ _ _ _ (count .count .ensures .0) (given .1) (given .2) (given .3) (given .4) (λ i. known .slice-known .given i .fits) _ (c .get .ensures))
+    (omega arith, refl, search needs, start _ _ _ _ (count .count .ensures .0) (given .1) (given .2) (given .3) (given .4) (λ i. known .slice-known .given i .fits) _ (c .get .ensures))
 
 row-requires : tie.Need-row-requires Inv-loop μ-loop
 row-requires c κs = omega arith
@@ -55,14 +56,47 @@ add-get-wide-2 c = omega arith
 get-wide-requires : tie.Need-get-wide-requires Inv-loop μ-loop
 get-wide-requires c κs = omega arith
 
-add-to-requires : tie.Need-add-to-requires Inv-loop μ-loop
-add-to-requires c κs =
-    let test = c .before .before in
-    let loop = test .before in
+mul-add : tie.Need-mul-add Inv-loop μ-loop
+mul-add c =
+    let row = c .before in
+    let loop = row .before .before in
     let first = loop .before .before .before .before .before .before in
     let given = first .pre in
     let below = row-below _ _ (now (first .args .ledger)) _ (loop .before .before .before .count .ensures .0) (given .1) (given .2) (given .3) (given .4) _ _ _ _ 0
-    (loop .loop .inv .2) (loop .loop .inv .1) (test .loop-test .taken) (c .before .row .ensures .0) in
+    (loop .loop .inv .3) (loop .loop .inv .1) (row .before .loop-test .taken) (row .row .ensures .0) in
+    omega (arith, below, few-rows (first .args .f))
+
+array-copy-out-add : tie.Need-array-copy-out-add Inv-loop μ-loop
+array-copy-out-add c =
+    let row = c .before in
+    let loop = row .before .before in
+    let first = loop .before .before .before .before .before .before in
+    let given = first .pre in
+    let below = row-below _ _ (now (first .args .ledger)) _ (loop .before .before .before .count .ensures .0) (given .1) (given .2) (given .3) (given .4) _ _ _ _ 0
+    (loop .loop .inv .3) (loop .loop .inv .1) (row .before .loop-test .taken) (row .row .ensures .0) in
+    omega (arith, below, few-rows (first .args .f))
+
+add-requires : tie.Need-add-requires Inv-loop μ-loop
+add-requires c κs = search needs
+
+mul-sums : tie.Need-mul-sums Inv-loop μ-loop
+mul-sums c =
+    let row = c .before .before .before in
+    let loop = row .before .before in
+    let first = loop .before .before .before .before .before .before in
+    let given = first .pre in
+    let below = row-below _ _ (now (first .args .ledger)) _ (loop .before .before .before .count .ensures .0) (given .1) (given .2) (given .3) (given .4) _ _ _ _ 0
+    (loop .loop .inv .3) (loop .loop .inv .1) (row .before .loop-test .taken) (row .row .ensures .0) in
+    omega (arith, below, few-rows (first .args .f))
+
+array-set-from-sums : tie.Need-array-set-from-sums Inv-loop μ-loop
+array-set-from-sums c =
+    let row = c .before .before .before in
+    let loop = row .before .before in
+    let first = loop .before .before .before .before .before .before in
+    let given = first .pre in
+    let below = row-below _ _ (now (first .args .ledger)) _ (loop .before .before .before .count .ensures .0) (given .1) (given .2) (given .3) (given .4) _ _ _ _ 0
+    (loop .loop .inv .3) (loop .loop .inv .1) (row .before .loop-test .taken) (row .row .ensures .0) in
     omega (arith, below, few-rows (first .args .f))
 
 block-requires : tie.Need-block-requires Inv-loop μ-loop
@@ -70,12 +104,12 @@ block-requires c κs = omega arith
 
 set-bit-requires : tie.Need-set-bit-requires Inv-loop μ-loop
 set-bit-requires c κs =
-    let test = c .before .before .before .before .before in
+    let row = c .before .before .before .before .before in
+    let test = row .before in
     let loop = test .before in
-    let first = loop .before .before .before .before .before .before in
-    let given = first .pre in
+    let given = loop .before .before .before .before .before .before .pre in
     may-mark _ _ _ _ (loop .before .before .before .count .ensures .0) (given .1) (given .2) (given .3) (given .4) _ _ _ _ _
-    (loop .loop .inv .2) (loop .loop .inv .1) (test .loop-test .taken) (c .before .before .before .before .row .ensures .0) (c .block .ensures .0)
+    (loop .loop .inv .3) (loop .loop .inv .1) (test .loop-test .taken) (row .row .ensures .0) (c .block .ensures .0)
 
 add-i : tie.Need-add-i Inv-loop μ-loop
 add-i c = omega arith
@@ -84,20 +118,27 @@ loop-less : tie.Need-loop-less Inv-loop μ-loop
 loop-less c = omega arith
 
 loop-again : tie.Need-loop-again Inv-loop μ-loop
+unfolding valueAt
 loop-again c =
     let marked = c .before .before in
     let block = marked .before in
     let added = block .before .before in
-    let read = added .before in
+    let read = added .before .before in
     let row = read .before in
     let test = row .before in
     let loop = test .before in
     let first = loop .before .before .before .before .before .before in
-    let given = first .pre in (
+    let given = first .pre in
+    let counted = loop .before .before .before .count .ensures .0 in
+    let below = row-below _ _ (now (first .args .ledger)) _ counted (given .1) (given .2) (given .3) (given .4) _ _ _ _ 0
+    (loop .loop .inv .3) (loop .loop .inv .1) (test .loop-test .taken) (row .row .ensures .0) in
+    let inside : row .row .result < length (loop .loop .sums) = omega (arith, below, few-rows (first .args .f), loop .loop .inv .2) in (
       omega arith,
       search needs,
-      turn _ _ _ _ (loop .before .before .before .count .ensures .0) (given .1) (given .2) (given .3) (given .4) _ _ _ _ _ (loop .loop .inv .2) (loop .loop .inv .1)
-          (test .loop-test .taken) (row .row .ensures .0) (block .block .ensures .0) _ _ _ (read .get-wide .ensures) (added .add-to .ensures) (marked .set-bit .ensures),
+      search needs,
+      turn _ _ _ _ counted (given .1) (given .2) (given .3) (given .4) _ (valueAt (loop .loop .sums)) _ _ _ (loop .loop .inv .3) (loop .loop .inv .1)
+          (test .loop-test .taken) (row .row .ensures .0) (block .block .ensures .0) _ _ _ (read .get-wide .ensures)
+          (one-added (loop .loop .sums) _ _ _ inside (added .add .ensures)) (marked .set-bit .ensures),
     )
 
 put-requires : tie.Need-put-requires Inv-loop μ-loop
@@ -118,7 +159,7 @@ returns c =
     let first = loop .before .before .before .before .before .before in
     let given = first .pre in
     let e : loop .loop .i ≡ loop .before .before .before .count .result = omega arith in
-    finish _ _ _ _ (loop .before .before .before .count .ensures .0) (given .1) (given .2) (given .3) (given .4) _ _ _ _ (loop .loop .inv .2) e (put .put .ensures)
+    finish _ _ _ _ (loop .before .before .before .count .ensures .0) (given .1) (given .2) (given .3) (given .4) _ _ _ _ (loop .loop .inv .3) e (put .put .ensures)
 
 pub enter-all-spec : {M : Type 1} → statement M
 enter-all-spec =
@@ -135,7 +176,11 @@ enter-all-spec =
     mul-get-wide-2
     add-get-wide-2
     get-wide-requires
-    add-to-requires
+    mul-add
+    array-copy-out-add
+    add-requires
+    mul-sums
+    array-set-from-sums
     block-requires
     set-bit-requires
     add-i
