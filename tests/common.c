@@ -147,6 +147,15 @@ size_t wrong_ledger_size(void)
     return below(8) == 0 ? 256 : wrong_size(BBP_LEDGER_SIZE);
 }
 
+void every_ledger_size(void (*prepare)(void), int64_t (*compare)(void), size_t *ledger_len, int64_t answer)
+{
+    for (size_t len = 0; len <= LEDGER_ROOM; len++) {
+        prepare();
+        *ledger_len = len;
+        CHECK(compare() == (len == BBP_LEDGER_SIZE ? answer : -1), "a ledger of %zu bytes", len);
+    }
+}
+
 /* Lent slices. */
 
 enum { PAGE = 4096, ROOM = 320 * PAGE, GUARD = 64 };

@@ -93,6 +93,9 @@ struct ledger_form {
     struct patch patches[PATCHES];
 };
 void make_ledger(uint8_t *ledger, const struct ledger_form *form);
+
+/* A call on ledgers of every size up to LEDGER_ROOM: it gives `answer` at a ledger's own, and refusal 1 at any other. */
+void every_ledger_size(void (*prepare)(void), int64_t (*compare)(void), size_t *ledger_len, int64_t answer);
 /* Makes a ledger not in order in one of its ways. */
 void spoil_ledger(uint8_t *ledger);
 /* An ascending list of tickets, each taken with the given chance in 256; gives e. */

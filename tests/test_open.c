@@ -53,15 +53,6 @@ static void every_block_count(void)
     }
 }
 
-static void every_size(void)
-{
-    for (size_t len = 0; len <= LEDGER_ROOM; len++) {
-        prepare();
-        t.ledger_len = len;
-        CHECK(compare() == (len == BBP_LEDGER_SIZE ? 0 : -1), "a ledger of %zu bytes", len);
-    }
-}
-
 static const struct {
     const char *what;
     int64_t answer;
@@ -136,7 +127,7 @@ int main(int argc, char **argv)
     open_over_each_sum();
     null_and_huge_examples();
     every_block_count();
-    every_size();
+    every_ledger_size(prepare, compare, &t.ledger_len, 0);
     run_suite(&suite);
     require_met("1 2 12");
     return finish();

@@ -113,15 +113,6 @@ static void every_ticket(uint64_t c)
         }
 }
 
-static void every_size(void)
-{
-    for (size_t len = 0; len <= LEDGER_ROOM; len++) {
-        prepare();
-        t.ledger_len = len;
-        CHECK(compare() == (len == BBP_LEDGER_SIZE ? 0 : -1), "a ledger of %zu bytes", len);
-    }
-}
-
 /* A row's sum, the sum that is posted to the row, and the row's sum after that. */
 static const struct {
     const char *what;
@@ -276,7 +267,7 @@ int main(int argc, char **argv)
     try_cases();
     post_after_post();
     plain_examples();
-    every_size();
+    every_ledger_size(prepare, compare, &t.ledger_len, 0);
     every_addition();
     for (int i = 0; i < 6; i++)
         every_ticket(counts[i]);

@@ -191,15 +191,6 @@ static void null_and_huge_examples(void)
     expect_huge_kept();
 }
 
-static void every_size(void)
-{
-    for (size_t len = 0; len <= LEDGER_ROOM; len++) {
-        prepare();
-        t.ledger_len = len;
-        CHECK(compare() == (len == BBP_LEDGER_SIZE ? 0 : -1), "a ledger of %zu bytes", len);
-    }
-}
-
 /* A row's sum, the sum of each of the row's three tickets in a sheet, and the row's sum after the sheet is posted. */
 static const struct {
     const char *what;
@@ -300,7 +291,7 @@ int main(int argc, char **argv)
     sheet_after_sheet(1);
     sheet_after_sheet(256);
     null_and_huge_examples();
-    every_size();
+    every_ledger_size(prepare, compare, &t.ledger_len, 0);
     every_addition();
     one_marked(1);
     one_marked(9);
