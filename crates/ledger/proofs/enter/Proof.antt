@@ -1,8 +1,8 @@
 -- `ledger::enter` meets its contract: the ledger's own sums with one of them changed, put back after the mark is set.
 -- Assumes nothing.
-use native.Mathlib.Omega.{arith}
 use mathlib.Core.Path.{_≡_}
-use Prim.Native.Nat.{_≤_}
+use Prim.Native.Nat.{_≤_, _<_}
+use native.Mathlib.Omega.{arith}
 use borrow.Author.Needs.{needs}
 use denote.Ref.{now}
 use lib.ListN.{length}
@@ -19,28 +19,26 @@ use Rattle.ledger.proofs.enter.Tie as tie
 get-requires : tie.Need-get-requires
 get-requires c κs = search needs
 
-mul-add : tie.Need-mul-add
-mul-add c =
-    let start = c .before .before .before in
-    omega (arith, few-rows (start .args .f), start .pre .1)
-
 array-copy-out-add : tie.Need-array-copy-out-add
 array-copy-out-add c =
     let start = c .before .before .before in
     omega (arith, few-rows (start .args .f), start .pre .1)
+
+mul-add : tie.Need-mul-add
+mul-add c =
+    let small : c .before .before .before .args .row < 7 = array-copy-out-add c in
+    omega (arith, small)
 
 add-requires : tie.Need-add-requires
 add-requires c κs = search needs
 
 mul-sums : tie.Need-mul-sums
 mul-sums c =
-    let start = c .before .before .before .before .before in
-    omega (arith, few-rows (start .args .f), start .pre .1)
+    let small : c .before .before .before .before .before .args .row < 7 = array-copy-out-add (c .before .before) in
+    omega (arith, small)
 
 array-set-from-sums : tie.Need-array-set-from-sums
-array-set-from-sums c =
-    let start = c .before .before .before .before .before in
-    omega (arith, few-rows (start .args .f), start .pre .1)
+array-set-from-sums c = array-copy-out-add (c .before .before)
 
 set-bit-requires : tie.Need-set-bit-requires
 set-bit-requires c κs =
@@ -62,11 +60,11 @@ returns c =
     let read = added .before .before in
     let known = read .before .before in
     let start = known .before in
-    let few = few-rows (start .args .f) in
     let size : marksAt (limitsOf (formulaOf (start .args .f))) ≤ length (now (start .args .ledger)) = omega (arith, start .pre .0) in
     let seven : length (read .get .result) ≡ 7 = search needs in
+    let small : start .args .row < 7 = array-copy-out-add read in
     entered _ (now (start .args .ledger)) _ _ _ _ _ (valueAt (read .get .result)) _ size (λ i. known .slice-known .given i .fits) (start .pre .1)
-    (read .get .ensures) (one-added (read .get .result) _ _ _ (omega (arith, few, seven, start .pre .1)) (added .add .ensures)) (marked .set-bit .ensures)
+    (read .get .ensures) (one-added (read .get .result) _ _ _ (omega (arith, small, seven)) (added .add .ensures)) (marked .set-bit .ensures)
     (put .put .ensures)
 
 pub enter-spec : {M : Type 1} → statement M

@@ -56,16 +56,6 @@ add-get-wide-2 c = omega arith
 get-wide-requires : tie.Need-get-wide-requires Inv-loop μ-loop
 get-wide-requires c κs = omega arith
 
-mul-add : tie.Need-mul-add Inv-loop μ-loop
-mul-add c =
-    let row = c .before in
-    let loop = row .before .before in
-    let first = loop .before .before .before .before .before .before in
-    let given = first .pre in
-    let below = row-below _ _ (now (first .args .ledger)) _ (loop .before .before .before .count .ensures .0) (given .1) (given .2) (given .3) (given .4) _ _ _ _ 0
-    (loop .loop .inv .3) (loop .loop .inv .1) (row .before .loop-test .taken) (row .row .ensures .0) in
-    omega (arith, below, few-rows (first .args .f))
-
 array-copy-out-add : tie.Need-array-copy-out-add Inv-loop μ-loop
 array-copy-out-add c =
     let row = c .before in
@@ -76,28 +66,21 @@ array-copy-out-add c =
     (loop .loop .inv .3) (loop .loop .inv .1) (row .before .loop-test .taken) (row .row .ensures .0) in
     omega (arith, below, few-rows (first .args .f))
 
+mul-add : tie.Need-mul-add Inv-loop μ-loop
+mul-add c =
+    let small : c .before .row .result < 7 = array-copy-out-add c in
+    omega (arith, small)
+
 add-requires : tie.Need-add-requires Inv-loop μ-loop
 add-requires c κs = search needs
 
 mul-sums : tie.Need-mul-sums Inv-loop μ-loop
 mul-sums c =
-    let row = c .before .before .before in
-    let loop = row .before .before in
-    let first = loop .before .before .before .before .before .before in
-    let given = first .pre in
-    let below = row-below _ _ (now (first .args .ledger)) _ (loop .before .before .before .count .ensures .0) (given .1) (given .2) (given .3) (given .4) _ _ _ _ 0
-    (loop .loop .inv .3) (loop .loop .inv .1) (row .before .loop-test .taken) (row .row .ensures .0) in
-    omega (arith, below, few-rows (first .args .f))
+    let small : c .before .before .before .row .result < 7 = array-copy-out-add (c .before .before) in
+    omega (arith, small)
 
 array-set-from-sums : tie.Need-array-set-from-sums Inv-loop μ-loop
-array-set-from-sums c =
-    let row = c .before .before .before in
-    let loop = row .before .before in
-    let first = loop .before .before .before .before .before .before in
-    let given = first .pre in
-    let below = row-below _ _ (now (first .args .ledger)) _ (loop .before .before .before .count .ensures .0) (given .1) (given .2) (given .3) (given .4) _ _ _ _ 0
-    (loop .loop .inv .3) (loop .loop .inv .1) (row .before .loop-test .taken) (row .row .ensures .0) in
-    omega (arith, below, few-rows (first .args .f))
+array-set-from-sums c = array-copy-out-add (c .before .before)
 
 block-requires : tie.Need-block-requires Inv-loop μ-loop
 block-requires c κs = omega arith
@@ -127,12 +110,10 @@ loop-again c =
     let row = read .before in
     let test = row .before in
     let loop = test .before in
-    let first = loop .before .before .before .before .before .before in
-    let given = first .pre in
+    let given = loop .before .before .before .before .before .before .pre in
     let counted = loop .before .before .before .count .ensures .0 in
-    let below = row-below _ _ (now (first .args .ledger)) _ counted (given .1) (given .2) (given .3) (given .4) _ _ _ _ 0
-    (loop .loop .inv .3) (loop .loop .inv .1) (test .loop-test .taken) (row .row .ensures .0) in
-    let inside : row .row .result < length (loop .loop .sums) = omega (arith, below, few-rows (first .args .f), loop .loop .inv .2) in (
+    let small : row .row .result < 7 = array-copy-out-add read in
+    let inside : row .row .result < length (loop .loop .sums) = omega (arith, small, loop .loop .inv .2) in (
       omega arith,
       search needs,
       search needs,
