@@ -22,8 +22,8 @@ use Rattle.run.proofs.Answering.{passes, skipped, refused-first, refused, finis
 use Rattle.ledger.specs.Ledger.{viewOf, ledgerSize, posIn, blocksIn, markIn, inOrder}
 use Rattle.ledger.specs.Plain.{Entry}
 use Rattle.ledger.proofs.Posting.{mark-is-bit}
-use Rattle.sheet.specs.Sheet.{sheetLength, sheetMost, sheetPos, sheetBlocks, sheetCount, entriesFrom, entries, every, allTickets, ascending, wellFormed}
-use Rattle.sheet.specs.Tests.{byteTests, unset}
+use Rattle.sheet.specs.Sheet.{sheetMost, sheetPos, sheetBlocks, sheetCount, entriesFrom, entries, every, allTickets, wellFormed}
+use Rattle.sheet.specs.Tests.{byteTests, unset, Enterable}
 use Rattle.sheet.specs.Calls.{enterEntry, sheetRefusal, sheetAnswer, sheetBytes}
 use Rattle.sheet.proofs.Simulation.{every-and, formed, sheet-taken}
 use Rattle.sheet.proofs.Testing.{formed-length}
@@ -143,18 +143,17 @@ module _ (lim : Limits) (ledger s : List ℕ) where
 -- ---- after the tests, by what they answered
 
 module _ (lim : Limits) (ledger s : List ℕ) (a : Answer) (tested : answerOf a ≡ sheetAnswer lim ledger s) where
-  pub none-applied : (v : ℕ) → a ≡ Finished v
-      → (length s ≡ sheetLength (sheetCount s)) × (ascending (entries s) ≡ true) × (length ledger ≡ ledgerSize lim)
-      × (allTickets lim 256 (entries s) ≡ true) × (every (unset lim ledger) (entries s) ≡ true)
+  pub none-applied : (v : ℕ) → a ≡ Finished v → Enterable lim ledger s
   unfolding sheetAnswer viewOf
   none-applied v f =
-      let t = sheet-taken lim (viewOf lim ledger) s (was-finished a v _ 0 f tested .0) in (
-        formed-length s (t .well-formed),
-        formed s (t .well-formed),
-        eqb-true (length ledger) (ledgerSize lim) (t .sized),
-        all-known lim ledger (sheetPos s) (sheetBlocks s) (entries s) (t .range) (t .tickets),
-        sym (by-bits lim ledger (sheetPos s) (sheetBlocks s) (entries s) (t .range) (t .tickets) (t .same-C)) ∙ t .new,
-      )
+      let t = sheet-taken lim (viewOf lim ledger) s (was-finished a v _ 0 f tested .0) in
+      record {
+        whole = formed-length s (t .well-formed);
+        ascends = formed s (t .well-formed);
+        sized = eqb-true (length ledger) (ledgerSize lim) (t .sized);
+        placed = all-known lim ledger (sheetPos s) (sheetBlocks s) (entries s) (t .range) (t .tickets);
+        new = sym (by-bits lim ledger (sheetPos s) (sheetBlocks s) (entries s) (t .range) (t .tickets) (t .same-C)) ∙ t .new;
+      }
 
   pub posted : (v : ℕ) (t : List ℕ) → a ≡ Finished v → t ≡ foldl (enterEntry lim) ledger (entries s)
       → (pos 0 ≡ sheetAnswer lim ledger s) × (t ≡ sheetBytes lim ledger s)

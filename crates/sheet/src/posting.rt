@@ -12,8 +12,8 @@ ghost use Rattle.series.specs.Names.{formulaOf};
 ghost use Rattle.run.specs.Run.{limitsOf};
 ghost use Rattle.run.specs.Answers.{answerOf};
 ghost use Rattle.ledger.specs.Ledger.{ledgerSize};
-ghost use Rattle.sheet.specs.Sheet.{sheetLength, sheetCount, entriesFrom, entries, every, allTickets, ascending};
-ghost use Rattle.sheet.specs.Tests.{unset};
+ghost use Rattle.sheet.specs.Sheet.{entriesFrom, entries, every, allTickets};
+ghost use Rattle.sheet.specs.Tests.{unset, Enterable};
 ghost use Rattle.sheet.specs.Calls.{enterEntry, sheetAnswer, sheetBytes};
 
 // Whether none of e entries, each of a row and block that the ledger has, has its bit set.
@@ -67,7 +67,7 @@ pub fn test_sheet(f: Series, ledger: &[u8], s: &[u8]) -> Answer
 // Enters every ticket of a sheet, in order: the rows' sums are read once and put back once. The tickets ascend, so none sets the bit of
 // another.
 pub fn enter_all(f: Series, ledger: &mut [u8], s: &[u8])
-    requires { ⌜ (length (now s) ≡ sheetLength (sheetCount (now s))) × (ascending (entries (now s)) ≡ true) × (length (now ledger) ≡ ledgerSize (limitsOf (formulaOf f))) × (allTickets (limitsOf (formulaOf f)) 256 (entries (now s)) ≡ true) × (every (unset (limitsOf (formulaOf f)) (now ledger)) (entries (now s)) ≡ true) ⌝ }
+    requires { ⌜ Enterable (limitsOf (formulaOf f)) (now ledger) (now s) ⌝ }
     ensures { λ _. ⌜ now (ledger .exit) ≡ foldl (enterEntry (limitsOf (formulaOf f))) (now (ledger .entry)) (entries (now (s .entry))) ⌝ }
 {
     let e = contents::count(s);

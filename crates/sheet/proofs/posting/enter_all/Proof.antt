@@ -36,7 +36,7 @@ loop-holds c =
     let count = c .before .before in
     let known = count .before .before in
     let given = known .before .pre in
-    (omega arith, refl, search needs, start _ _ _ _ (count .count .ensures .0) (given .1) (given .2) (given .3) (given .4) (λ i. known .slice-known .given i .fits) _ (c .get .ensures))
+    (omega arith, refl, search needs, start _ _ _ _ (count .count .ensures .0) (given .ascends) (given .sized) (given .placed) (given .new) (λ i. known .slice-known .given i .fits) _ (c .get .ensures))
 
 row-requires : tie.Need-row-requires Inv-loop μ-loop
 row-requires c κs = omega arith
@@ -62,7 +62,7 @@ array-copy-out-add c =
     let loop = row .before .before in
     let first = loop .before .before .before .before .before .before in
     let given = first .pre in
-    let below = row-below _ _ (now (first .args .ledger)) _ (loop .before .before .before .count .ensures .0) (given .1) (given .2) (given .3) (given .4) _ _ _ _ 0
+    let below = row-below _ _ (now (first .args .ledger)) _ (loop .before .before .before .count .ensures .0) (given .ascends) (given .sized) (given .placed) (given .new) _ _ _ _ 0
     (loop .loop .inv .3) (loop .loop .inv .1) (row .before .loop-test .taken) (row .row .ensures .0) in
     omega (arith, below, few-rows (first .args .f))
 
@@ -91,7 +91,7 @@ set-bit-requires c κs =
     let test = row .before in
     let loop = test .before in
     let given = loop .before .before .before .before .before .before .pre in
-    may-mark _ _ _ _ (loop .before .before .before .count .ensures .0) (given .1) (given .2) (given .3) (given .4) _ _ _ _ _
+    may-mark _ _ _ _ (loop .before .before .before .count .ensures .0) (given .ascends) (given .sized) (given .placed) (given .new) _ _ _ _ _
     (loop .loop .inv .3) (loop .loop .inv .1) (test .loop-test .taken) (row .row .ensures .0) (c .block .ensures .0)
 
 add-i : tie.Need-add-i Inv-loop μ-loop
@@ -117,7 +117,7 @@ loop-again c =
       omega arith,
       search needs,
       search needs,
-      turn _ _ _ _ counted (given .1) (given .2) (given .3) (given .4) _ (valueAt (loop .loop .sums)) _ _ _ (loop .loop .inv .3) (loop .loop .inv .1)
+      turn _ _ _ _ counted (given .ascends) (given .sized) (given .placed) (given .new) _ (valueAt (loop .loop .sums)) _ _ _ (loop .loop .inv .3) (loop .loop .inv .1)
           (test .loop-test .taken) (row .row .ensures .0) (block .block .ensures .0) _ _ _ (read .get-wide .ensures)
           (one-added (loop .loop .sums) _ _ _ inside (added .add .ensures)) (marked .set-bit .ensures),
     )
@@ -125,7 +125,7 @@ loop-again c =
 put-requires : tie.Need-put-requires Inv-loop μ-loop
 put-requires c κs =
     let loop = c .before .before in
-    loop .loop .inv .1 ∙ loop .before .before .before .before .before .before .pre .2
+    loop .loop .inv .1 ∙ loop .before .before .before .before .before .before .pre .sized
 
 same-length : tie.Need-same-length Inv-loop μ-loop
 same-length c =
@@ -140,7 +140,7 @@ returns c =
     let first = loop .before .before .before .before .before .before in
     let given = first .pre in
     let e : loop .loop .i ≡ loop .before .before .before .count .result = omega arith in
-    finish _ _ _ _ (loop .before .before .before .count .ensures .0) (given .1) (given .2) (given .3) (given .4) _ _ _ _ (loop .loop .inv .3) e (put .put .ensures)
+    finish _ _ _ _ (loop .before .before .before .count .ensures .0) (given .ascends) (given .sized) (given .placed) (given .new) _ _ _ _ (loop .loop .inv .3) e (put .put .ensures)
 
 pub enter-all-spec : {M : Type 1} → statement M
 enter-all-spec =
