@@ -54,7 +54,7 @@ extern "C" {
 #define BBP_LEDGER_SIZE 352 /* a ledger, exactly: 16, and 48 for each row */
 #define BBP_SUM_SIZE 16     /* a ticket's sum, exactly */
 #define BBP_DIGITS_SIZE 32  /* the digits' slice of a closing, exactly */
-#define BBP_LIST_MAX 3584   /* a list of tickets, at most: 2 for each of 7 * 256 tickets */
+#define BBP_LIST_MAX 3584   /* a list to be worked, at most: 2 for each of 7 * 256 tickets */
 #define BBP_SHEET_MAX 35856 /* a sheet that is read or posted, at most */
 
 /* Where a row's sum, 16 bytes, and its marks, 32 bytes, stand in a ledger: row 0 to 6. */
@@ -75,13 +75,14 @@ extern "C" {
  */
 enum bbp_refusal {
     /* A slice of the wrong size: a ledger not of 352 bytes, a sum not of 16, digits not of 32; a list
-       of odd length or over 3,584; a sheet to read or post under 16 or over 35,856; a sheet to write
-       under 16 + 20e; read outputs under 2e or 16e, where e is the count in the sheet's head. */
+       to be worked of odd length or over 3,584; a sheet to read or post under 16 or over 35,856; a
+       sheet to write under 16 + 20e; read outputs under 2e or 16e, where e is the count in the sheet's
+       head. */
     BBP_REFUSED_SIZE = 1,
     /* The position or the block count, of the call or in the sheet's head, is out of range. */
     BBP_REFUSED_RANGE = 2,
     /* A sheet's length is not 16 + 20e, one of its zero bytes is not zero, or a list or a sheet's
-       contents are not strictly ascending. */
+       contents do not strictly ascend by 256 * row + block. */
     BBP_REFUSED_FORM = 3,
     /* A row above 6, or a block not below the block count of the call or of the sheet. */
     BBP_REFUSED_TICKET = 4,
