@@ -1,7 +1,8 @@
 -- The ledger's bytes, and what the refusal table sees of a ledger. Document 01, "The ledger"; document 02, slip 1.
-use mathlib.Core.Bool.{Bool, not, _&&_, _||_}
+use mathlib.Core.Path.{_≡_}
+use mathlib.Core.Bool.{Bool, false, not, _&&_, _||_}
 use mathlib.Core.List.{List, _++_}
-use Prim.Native.Nat.{ℕ, _+_, _*_, _/_, _%_, _^_}
+use Prim.Native.Nat.{ℕ, _+_, _*_, _/_, _%_, _^_, _<_}
 use lib.Dec.{ltb, eqb}
 use lib.ListN.{length, getD, take, drop, set, replicate}
 use Rattle.algebra.specs.Sum.{sum}
@@ -97,3 +98,10 @@ mark lim s row block = let at = markAt lim row block in set s at (getD s at 0 + 
 -- a ticket entered with its sum
 unfoldable pub enter : Limits → List ℕ → ℕ → ℕ → ℕ → List ℕ
 enter lim s row block x = mark lim (addTo s row x) row block
+
+-- what has been tested before a ticket is entered: its row and block have a place in the ledger, whatever its C, and its bit is not set
+pub record Enterable (lim : Limits) (s : List ℕ) (row block : ℕ) : Type 0 where
+  pub sized : length s ≡ ledgerSize lim
+  pub row-in : row < lim .rows
+  pub block-in : block < 256
+  pub new : bitIn lim s row block ≡ false

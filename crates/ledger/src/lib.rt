@@ -16,7 +16,7 @@ ghost use Rattle.series.specs.Names.{formulaOf};
 ghost use Rattle.series.specs.Series.{rowCount};
 ghost use Rattle.run.specs.Run.{limitsOf};
 ghost use Rattle.run.specs.Answers.{answerOf};
-ghost use Rattle.ledger.specs.Ledger.{ledgerSize, marksAt, markAt, posIn, blocksIn, bitIn, inOrder, mark};
+ghost use Rattle.ledger.specs.Ledger.{ledgerSize, marksAt, markAt, posIn, blocksIn, bitIn, inOrder, mark, Enterable};
 ghost use Rattle.ledger.specs.Ledger as definition;
 ghost use Rattle.ledger.specs.Calls.{openAnswer, openBytes, ticketAnswer, ticketBytes};
 
@@ -136,7 +136,7 @@ pub fn set_bit(f: Series, ledger: &mut [u8], row: usize, block: usize)
 
 // Adds x to the sum of a row and sets the bit of a row and block.
 pub fn enter(f: Series, ledger: &mut [u8], row: usize, block: usize, x: Wide)
-    requires { ⌜ (length (now ledger) ≡ ledgerSize (limitsOf (formulaOf f))) × (row < rowCount (formulaOf f)) × (block < 256) × (bitIn (limitsOf (formulaOf f)) (now ledger) row block ≡ false) ⌝ }
+    requires { ⌜ Enterable (limitsOf (formulaOf f)) (now ledger) row block ⌝ }
     ensures { λ _. ⌜ now (ledger .exit) ≡ definition.enter (limitsOf (formulaOf f)) (now (ledger .entry)) row block (joined (x .hi) (x .lo)) ⌝ }
 {
     let mut sums = sums::get(f, ledger);

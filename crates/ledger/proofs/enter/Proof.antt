@@ -22,7 +22,7 @@ get-requires c κs = search needs
 array-copy-out-add : tie.Need-array-copy-out-add
 array-copy-out-add c =
     let start = c .before .before .before in
-    omega (arith, few-rows (start .args .f), start .pre .1)
+    omega (arith, few-rows (start .args .f), start .pre .row-in)
 
 mul-add : tie.Need-mul-add
 mul-add c =
@@ -43,7 +43,7 @@ array-set-from-sums c = array-copy-out-add (c .before .before)
 set-bit-requires : tie.Need-set-bit-requires
 set-bit-requires c κs =
     let given = c .before .before .before .before .before .before .pre in
-    (omega (arith, given .0, given .1, given .2), given .3)
+    (omega (arith, given), given .new)
 
 put-requires : tie.Need-put-requires
 put-requires c κs = search needs
@@ -60,10 +60,10 @@ returns c =
     let read = added .before .before in
     let known = read .before .before in
     let start = known .before in
-    let size : marksAt (limitsOf (formulaOf (start .args .f))) ≤ length (now (start .args .ledger)) = omega (arith, start .pre .0) in
+    let size : marksAt (limitsOf (formulaOf (start .args .f))) ≤ length (now (start .args .ledger)) = omega (arith, start .pre .sized) in
     let seven : length (read .get .result) ≡ 7 = search needs in
     let small : start .args .row < 7 = array-copy-out-add read in
-    entered _ (now (start .args .ledger)) _ _ _ _ _ (valueAt (read .get .result)) _ size (λ i. known .slice-known .given i .fits) (start .pre .1)
+    entered _ (now (start .args .ledger)) _ _ _ _ _ (valueAt (read .get .result)) _ size (λ i. known .slice-known .given i .fits) (start .pre .row-in)
     (read .get .ensures) (one-added (read .get .result) _ _ _ (omega (arith, small, seven)) (added .add .ensures)) (marked .set-bit .ensures)
     (put .put .ensures)
 

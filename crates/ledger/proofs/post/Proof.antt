@@ -22,7 +22,7 @@ enter-requires : tie.Need-enter-requires
 enter-requires c κs =
     let told = c .before .before in
     let h = none-applied _ _ _ _ _ _ _ _ (told .before .before .test-ticket .ensures) _ (told .enum-told .given .1) in
-    (h .sized, ticket-row _ _ _ _ (h .ticket), block-low h, h .unset)
+    record { sized = h .sized; row-in = ticket-row _ _ _ _ (h .ticket); block-in = block-low h; new = h .unset }
 
 enum-known-r : tie.Need-enum-known-r
 enum-known-r c = search needs

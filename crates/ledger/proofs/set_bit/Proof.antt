@@ -51,7 +51,9 @@ module _ (lim : Limits) (s : List ℕ) (start row block : ℕ) (at-marks : start
 
 add-byte : tie.Need-add-byte
 add-byte c =
-    record { fits = fits _ _ _ _ _ (c .before .marks-at .ensures) (c .slice-known2 .given _ .fits) (c .before .before .before .pre .1) }
+    let start = c .before .before .before in
+    let h = fits _ _ _ _ (start .args .block) (c .before .marks-at .ensures) (c .slice-known2 .given _ .fits) (start .pre .1) in
+    search (needs, h)
 
 slice-write-ledger : tie.Need-slice-write-ledger
 slice-write-ledger c = search needs
