@@ -27,7 +27,7 @@ use Rattle.ledger.proofs.Marks.{mark-past}
 
 -- ---- the bytes of several rows' sums
 
-pub length-sum-rows : (v : ℕ → ℕ) (r n : ℕ) → length (sumRows v r n) ≡ 16 * n
+length-sum-rows : (v : ℕ → ℕ) (r n : ℕ) → length (sumRows v r n) ≡ 16 * n
 unfolding sumRows
 length-sum-rows v r zero = refl
 length-sum-rows v r (suc n) =
@@ -35,7 +35,7 @@ length-sum-rows v r (suc n) =
     let f = length-bytes 16 (v r) in
     length-append (bytesOf 16 (v r)) (sumRows v (suc r) n) ∙ omega (arith, e, f)
 
-pub rows-ext : (v w : ℕ → ℕ) (r n : ℕ) → ((i : ℕ) → r ≤ i → i < r + n → v i ≡ w i) → sumRows v r n ≡ sumRows w r n
+rows-ext : (v w : ℕ → ℕ) (r n : ℕ) → ((i : ℕ) → r ≤ i → i < r + n → v i ≡ w i) → sumRows v r n ≡ sumRows w r n
 unfolding sumRows
 rows-ext v w r zero h = refl
 rows-ext v w r (suc n) h =
@@ -50,7 +50,7 @@ rows-append v r (suc m) n =
     ∙ sym (append-assoc (bytesOf 16 (v r)) (sumRows v (suc r) m) (sumRows v (r + suc m) n))
 
 -- one row more, as a loop writes them
-pub rows-next : (v : ℕ → ℕ) (n : ℕ) → sumRows v 0 (n + 1) ≡ sumRows v 0 n ++ bytesOf 16 (v n)
+rows-next : (v : ℕ → ℕ) (n : ℕ) → sumRows v 0 (n + 1) ≡ sumRows v 0 n ++ bytesOf 16 (v n)
 unfolding sumRows
 rows-next v n =
     rows-append v 0 n 1 ∙ ap (λ (l : List ℕ). sumRows v 0 n ++ l) (append-nil (bytesOf 16 (v (0 + n))) ∙ ap (λ (k : ℕ). bytesOf 16 (v k)) (zero-add n))
@@ -118,7 +118,6 @@ add-sums front back head v R row x h fits =
     let w = adding row x v in
     let before = front ++ sumRows v 0 row in
     let after = sumRows v (suc row) (R - suc row) ++ back in
-    let s = before ++ bytesOf 16 (v row) ++ after in
     let n = length-before front back head v row in
     let m = length-append before (bytesOf 16 (v row)) ∙ ap₂ _+_ n (length-bytes 16 (v row)) in
     let low : sumRows w 0 row ≡ sumRows v 0 row = rows-ext w v 0 row (λ i l u. adding-else row x v i (λ q. omega (arith, q))) in
@@ -256,24 +255,6 @@ one-put s t u v row h et eu =
     ∙ ap (λ (l : List ℕ). l ++ drop (sumAt (row + 1)) s)
     (append-assoc (take 16 s) (sumRows v 0 row) (bytesOf 16 (v row)) ∙ ap (λ (l : List ℕ). take 16 s ++ l) (sym (rows-next v row)))
 
--- ---- a ticket entered: the sums read, one changed, the mark set, the sums put back
-
-pub held-fits : (rows : ℕ) (s : List ℕ) → AllBytes s → (row : ℕ) → heldIn rows s row < modulus
-unfolding heldIn rowSumIn
-held-fits rows s bytes row = go (ltb row rows)
-  where
-    go : (b : Bool) → cond b (field s (sumAt row) 16) 0 < modulus
-    go true = field-lt s (sumAt row) 16 bytes
-    go false = pow-pos 128
-
-pub entered : (lim : Limits) (s t u : List ℕ) (row block x : ℕ) (v w : ℕ → ℕ) → marksAt lim ≤ length s → AllBytes s → row < lim .rows
-    → ((i : ℕ) → v i ≡ heldIn (lim .rows) s i) → ((i : ℕ) → w i ≡ adding row x v i) → t ≡ mark lim s row block → u ≡ withSums lim t w
-    → u ≡ enter lim s row block x
-entered lim s t u row block x v w size bytes h read added et eu =
-    eu ∙ ap₂ (withSums lim) et (λ i r. added r i)
-    ∙ sym (enter-with lim s size v row block x h (subst (λ (n : ℕ). n < modulus) (sym (read row)) (held-fits (lim .rows) s bytes row)))
-    ∙ ap (λ (l : List ℕ). enter lim l row block x) (with-own lim s size bytes v read)
-
 -- the loop that adds them up
 pub none-totalled : (v : ℕ → ℕ) → joined 0 0 ≡ sum v 0 0 % modulus
 unfolding joined sum
@@ -296,3 +277,21 @@ total-held lim s v h held =
     sum-ext v (λ row. 0) (0 + R) (7 - R) (λ i l u. held i ∙ ap (λ (b : Bool). cond b (rowSumIn s i) 0) (le-ltb i R (omega arith))) in
     let none = sum-zero (λ row. 0) (0 + R) (7 - R) (λ i. refl) in
     ap (λ (n : ℕ). n % modulus) (ap (sum v 0) e ∙ sum-split v 0 R (7 - R) ∙ ap₂ _+_ low (rest ∙ none) ∙ add-zero (sum (rowSumIn s) 0 R))
+
+-- ---- a ticket entered: the sums read, one changed, the mark set, the sums put back
+
+pub held-fits : (rows : ℕ) (s : List ℕ) → AllBytes s → (row : ℕ) → heldIn rows s row < modulus
+unfolding heldIn rowSumIn
+held-fits rows s bytes row = go (ltb row rows)
+  where
+    go : (b : Bool) → cond b (field s (sumAt row) 16) 0 < modulus
+    go true = field-lt s (sumAt row) 16 bytes
+    go false = pow-pos 128
+
+pub entered : (lim : Limits) (s t u : List ℕ) (row block x : ℕ) (v w : ℕ → ℕ) → marksAt lim ≤ length s → AllBytes s → row < lim .rows
+    → ((i : ℕ) → v i ≡ heldIn (lim .rows) s i) → ((i : ℕ) → w i ≡ adding row x v i) → t ≡ mark lim s row block → u ≡ withSums lim t w
+    → u ≡ enter lim s row block x
+entered lim s t u row block x v w size bytes h read added et eu =
+    eu ∙ ap₂ (withSums lim) et (λ i r. added r i)
+    ∙ sym (enter-with lim s size v row block x h (subst (λ (n : ℕ). n < modulus) (sym (read row)) (held-fits (lim .rows) s bytes row)))
+    ∙ ap (λ (l : List ℕ). enter lim l row block x) (with-own lim s size bytes v read)
