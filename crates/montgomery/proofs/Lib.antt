@@ -1,1 +1,2 @@
 pub mod Negated
+pub mod Reducing

@@ -1,7 +1,7 @@
 // Arithmetic modulo an odd n by Montgomery's method: the whole part of 2^e / n, modulo 2^128.
 // Algorithms 3, 4, 5 and 7 of Takahashi's paper, each in a function of its own.
 ghost use mathlib.Core.Path.{_≡_};
-ghost use Prim.Native.Nat.{ℕ, _+_, _*_, _/_, _%_, _^_, _≤_, _<_};
+ghost use Prim.Native.Nat.{ℕ, _+_, _*_, _/_, _%_, _^_, _≤_, _<_, min};
 ghost use Rattle.words.specs.Words.{joined};
 ghost use Rattle.montgomery.specs.Modulus.{Modulus, montgomery};
 use words::Wide;
@@ -32,13 +32,14 @@ pub fn inverse(n: u64) -> u64
     refine(n, x3)
 }
 
-// a + b, modulo n. The room that a leaves is known before b, which a squaring has last.
-pub fn sum(a: u64, b: u64, n: u64) -> u64
-    requires { ⌜ (a ≤ n) × (b < n) ⌝ }
-    ensures { λ r. ⌜ r ≡ (a + b) % n ⌝ }
+// The smaller of y and z, where z is y less a number below 2^63, modulo 2^64. The top bit of z is 1 where that wrapped,
+// and z is the larger then: the bit is the comparison as a number, and picks one of the two with no branch.
+pub fn smaller(y: u64, z: u64) -> u64
+    requires { ⌜ (z < 2 ^ 63 → z ≤ y) × (2 ^ 63 ≤ z → y ≤ z) ⌝ }
+    ensures { λ r. ⌜ r ≡ min y z ⌝ }
 {
-    let room = n - a;
-    if b < room { a + b } else { b - room }
+    let wrapped = z >> 63;
+    words::wrapping_sub(z, wrapped * words::wrapping_sub(z, y))
 }
 
 // Algorithm 3 with both factors x. As mu is - 1 / n, the lower words of x * x and q * n add up to 0 or to 2^64:
@@ -51,15 +52,18 @@ pub fn square(x: MontgomeryResidue, n: u64, mu: u64) -> MontgomeryResidue
     let hi = words::mul_high(x.0, x.0);
     let q = words::wrapping_mul(lo, mu);
     let carried = hi + (lo != 0) as u64;
-    MontgomeryResidue(sum(carried, words::mul_high(q, n), n))
+    let sum = carried + words::mul_high(q, n);
+    MontgomeryResidue(smaller(sum, words::wrapping_sub(sum, n)))
 }
 
-// Twice x, modulo n.
-pub fn double(x: MontgomeryResidue, n: u64) -> MontgomeryResidue
-    requires { ⌜ x .0 < n ⌝ }
-    ensures { λ r. ⌜ r .0 ≡ 2 * x .0 % n ⌝ }
+// Twice x modulo n where the bit is 1, and x where it is 0: shifted by the bit, that less n, and the smaller of the two.
+pub fn double(x: MontgomeryResidue, bit: u64, n: u64) -> MontgomeryResidue
+    requires { ⌜ (x .0 < n) × (n < 2 ^ 63) × (bit ≤ 1) ⌝ }
+    ensures { λ r. ⌜ (bit ≡ 1 → r .0 ≡ 2 * x .0 % n) × (bit ≡ 0 → r .0 ≡ x .0) ⌝ }
 {
-    MontgomeryResidue(sum(x.0, x.0, n))
+    let y = x.0 << bit;
+    let z = words::wrapping_sub(y, n);
+    MontgomeryResidue(smaller(y, z))
 }
 
 // 2 in Montgomery form: 2^65 modulo n, by way of 2^64 - n, which fits a word.
@@ -67,7 +71,7 @@ pub fn start(n: u64) -> MontgomeryResidue
     requires { ⌜ (0 < n) × (n < 2 ^ 63) ⌝ }
     ensures { λ r. ⌜ r .0 ≡ montgomery n 2 ⌝ }
 {
-    double(MontgomeryResidue((u64::MAX - n + 1) % n), n)
+    double(MontgomeryResidue((u64::MAX - n + 1) % n), 1, n)
 }
 
 // Algorithm 5 from its line 5 on: 2^e in Montgomery form. `start` takes the top bit of e, and each bit below it
@@ -80,10 +84,8 @@ pub fn power(e: u64, n: u64, mu: u64) -> MontgomeryResidue
     let mut i: u32 = 63 - u64::leading_zeros(e);
     while i > 0 {
         i -= 1;
-        x = square(x, n, mu);
-        if (e >> i) & 1 == 1 {
-            x = double(x, n);
-        }
+        let bit = (e >> i) & 1;
+        x = double(square(x, n, mu), bit, n);
     }
     x
 }

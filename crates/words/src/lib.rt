@@ -41,6 +41,16 @@ pub fn wrapping_mul(a: u64, b: u64) -> u64
     (c % 0x1_0000_0000) * 0x1_0000_0000 + w0 % 0x1_0000_0000
 }
 
+// a - b, modulo 2^64: the number that b added to wraps back to a. Where a is below b, 2^64 - b is added, else b is
+// subtracted, each times the comparison as a number: this has no branch on a and b, as the kit's own has.
+// The compiler makes one subtraction of it.
+pub fn wrapping_sub(a: u64, b: u64) -> u64
+    ensures { λ r. ⌜ (r + b) % 2 ^ 64 ≡ a ⌝ }
+{
+    let below = (a < b) as u64;
+    a + below * (u64::MAX - b + below) - (1 - below) * b
+}
+
 // a + b, modulo 2^128. The lower word wrapped if it came out below a summand.
 pub fn add(a: Wide, b: Wide) -> Wide
     ensures { λ r. ⌜ joined (r .hi) (r .lo) ≡ (joined (a .hi) (a .lo) + joined (b .hi) (b .lo)) % 2 ^ 128 ⌝ }

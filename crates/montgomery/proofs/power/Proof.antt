@@ -1,12 +1,12 @@
 -- `montgomery::power` meets its contract: with i bits of e left, x stands for 2 to the power of the bits above them.
 -- Assumes nothing.
-use mathlib.Core.Path.{_≡_}
-use Prim.Native.Nat.{ℕ, suc, _+_, _*_, _-_, _/_, _%_, _^_, _≤_, _<_}
+use mathlib.Core.Path.{_≡_, refl, _∙_}
+use Prim.Native.Nat.{ℕ, zero, suc, _+_, _*_, _-_, _/_, _%_, _^_, _≤_, _<_}
 use native.Mathlib.Nat.{div-one, mod-lt, pow-suc}
 use native.Mathlib.Omega.{arith}
 use borrow.Author.Needs.{needs}
 use lib.Arith.{digits-div}
-use lib.Bits.{bitAnd, and-mask}
+use lib.Bits.{bitAnd, and-le-r, and-mask}
 use lib.Count.{leadingZeros, leading-top}
 use Rattle.algebra.proofs.Cong.{Mod, of-%, is-%, wrapped}
 use Rattle.algebra.proofs.Power.{squared, doubled, next-bit}
@@ -48,17 +48,23 @@ module _ (e n μ i x s : ℕ) (m : Modulus n μ) (l : 0 < i) (p : x ≡ montgome
   bits : e / 2 ^ (i - 1) ≡ e / 2 ^ i + e / 2 ^ i + e / 2 ^ (i - 1) % 2
   bits = let back : i - 1 + 1 ≡ i = omega arith in rw back at (next-bit e (i - 1))
 
-  clear : s < n → (bitAnd (e / 2 ^ (i - 1)) 1 ≡ 1 → ⊥) → s ≡ montgomery n (2 ^ (e / 2 ^ (i - 1)))
+  clear : s < n → e / 2 ^ (i - 1) % 2 ≡ 0 → s ≡ montgomery n (2 ^ (e / 2 ^ (i - 1)))
   clear h b =
-      let b₁ : (e / 2 ^ (i - 1) % 2 ≡ 1 → ⊥) = rw (and-mask (e / 2 ^ (i - 1)) 1) at b in
-      let same : e / 2 ^ i + e / 2 ^ i ≡ e / 2 ^ (i - 1) = omega (arith, bits) in
+      let same : e / 2 ^ i + e / 2 ^ i ≡ e / 2 ^ (i - 1) = omega (arith, bits, b) in
       rw same at (is-% h square)
 
-  set : (d : ℕ) → bitAnd (e / 2 ^ (i - 1)) 1 ≡ 1 → d ≡ 2 * s % n → d ≡ montgomery n (2 ^ (e / 2 ^ (i - 1)))
+  set : (d : ℕ) → e / 2 ^ (i - 1) % 2 ≡ 1 → d ≡ 2 * s % n → d ≡ montgomery n (2 ^ (e / 2 ^ (i - 1)))
   set d b r =
-      let b₁ : e / 2 ^ (i - 1) % 2 ≡ 1 = rw (and-mask (e / 2 ^ (i - 1)) 1) at b in
-      let same : e / 2 ^ i + e / 2 ^ i + 1 ≡ e / 2 ^ (i - 1) = omega (arith, bits) in
+      let same : e / 2 ^ i + e / 2 ^ i + 1 ≡ e / 2 ^ (i - 1) = omega (arith, bits, b) in
       rw same at (is-% (rw r (mod-lt (2 * s) (m .positive))) (doubled (2 ^ 64) (e / 2 ^ i + e / 2 ^ i) s d square (wrapped n r)))
+
+  turn : (d : ℕ) → s < n → (bitAnd (e / 2 ^ (i - 1)) 1 ≡ 1 → d ≡ 2 * s % n) × (bitAnd (e / 2 ^ (i - 1)) 1 ≡ 0 → d ≡ s) → d ≡ montgomery n (2 ^ (e / 2 ^ (i - 1)))
+  turn d h r = each (e / 2 ^ (i - 1) % 2) refl
+    where
+      each : (b : ℕ) → e / 2 ^ (i - 1) % 2 ≡ b → d ≡ montgomery n (2 ^ (e / 2 ^ (i - 1)))
+      each zero b = r .1 (and-mask (e / 2 ^ (i - 1)) 1 ∙ b) ∙ clear h b
+      each (suc zero) b = set d b (r .0 (and-mask (e / 2 ^ (i - 1)) 1 ∙ b))
+      each (suc (suc t)) b = omega (arith, b)
 
 below : (n μ x y : ℕ) → Modulus n μ → x ≡ montgomery n y → x < n
 below n μ x y m e = rw e (mod-lt _ (m .positive))
@@ -75,37 +81,30 @@ loop-holds c = (omega arith, rw (top _ (c .before .pre .0) (c .before .fits .e .
 sub-i-2 : tie.Need-sub-i-2 Inv-loop μ-loop
 sub-i-2 c = omega arith
 
+cast-bit : tie.Need-cast-bit Inv-loop μ-loop
+cast-bit c = search needs
+
+shr-bit : tie.Need-shr-bit Inv-loop μ-loop
+shr-bit c = search needs
+
 square-requires : tie.Need-square-requires Inv-loop μ-loop
 square-requires c κs = let s = c .before .before .before in (below _ _ _ _ (s .pre .1) (c .before .loop .inv .1), s .pre .1)
 
-cast-if1 : tie.Need-cast-if1 Inv-loop μ-loop
-cast-if1 c = search needs
-
-shr-if1 : tie.Need-shr-if1 Inv-loop μ-loop
-shr-if1 c = search needs
-
 double-requires : tie.Need-double-requires Inv-loop μ-loop
-double-requires c κs = c .before .square .ensures .0
+double-requires c κs =
+    let t = c .before .before in
+    let s = t .before .before in
+    (c .square .ensures .0, s .pre .1 .small, and-le-r (s .args .e / 2 ^ (t .loop .i - 1)) 1)
 
 loop-less : tie.Need-loop-less Inv-loop μ-loop
 loop-less c = omega arith
 
 loop-again : tie.Need-loop-again Inv-loop μ-loop
 loop-again c =
-    let t = c .before .before .before .before in
-    let s = t .before .before in
-    let x = c .before .before .square in
-    (omega arith, set (s .args .e) (s .args .n) (s .args .mu) (t .loop .i) (t .loop .x .0) (x .result .0) (s .pre .1) (omega arith) (t .loop .inv .1) (x .ensures .1) _ (c .before .if1 .taken) (c .double .ensures))
-
-loop-less-2 : tie.Need-loop-less-2 Inv-loop μ-loop
-loop-less-2 c = omega arith
-
-loop-again-2 : tie.Need-loop-again-2 Inv-loop μ-loop
-loop-again-2 c =
     let t = c .before .before .before in
     let s = t .before .before in
     let x = c .before .square in
-    (omega arith, clear (s .args .e) (s .args .n) (s .args .mu) (t .loop .i) (t .loop .x .0) (x .result .0) (s .pre .1) (omega arith) (t .loop .inv .1) (x .ensures .1) (x .ensures .0) (c .if1 .left))
+    (omega arith, turn (s .args .e) (s .args .n) (s .args .mu) (t .loop .i) (t .loop .x .0) (x .result .0) (s .pre .1) (omega arith) (t .loop .inv .1) (x .ensures .1) _ (x .ensures .0) (c .double .ensures))
 
 returns : tie.Need-returns Inv-loop μ-loop
 returns c =
@@ -122,12 +121,10 @@ power-spec =
     sub-i
     loop-holds
     sub-i-2
+    cast-bit
+    shr-bit
     square-requires
-    cast-if1
-    shr-if1
     double-requires
     loop-less
     loop-again
-    loop-less-2
-    loop-again-2
     returns)

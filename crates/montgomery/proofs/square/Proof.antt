@@ -13,41 +13,47 @@ use Rattle.algebra.proofs.Cong.{Mod, to-%, rem, wrapped, refl-mod, trans, times
 use Rattle.algebra.proofs.Montgomery.{upper-below}
 use Rattle.montgomery.specs.Modulus.{Modulus}
 use Rattle.montgomery.proofs.Negated.{opposite, upper}
+use Rattle.montgomery.proofs.Reducing.{ordered, reduced}
 use Rattle.montgomery.proofs.square.Statement.{statement}
 use Rattle.montgomery.proofs.square.Tie as tie
 
+-- whether the lower words carry
+abbrev bit : ℕ → Bool
+bit lo = not (eqb lo 0)
+
 -- two words that are opposite add up to 0, if one is 0, and else to 2^64
-carry : (lo l : ℕ) (t : Bool) → not (eqb lo 0) ≡ t → lo < 2 ^ 64 → l < 2 ^ 64 → (lo + l) % 2 ^ 64 ≡ 0 → lo + l ≡ boolByte t * 2 ^ 64
+carry : (lo l : ℕ) (t : Bool) → bit lo ≡ t → lo < 2 ^ 64 → l < 2 ^ 64 → (lo + l) % 2 ^ 64 ≡ 0 → lo + l ≡ boolByte t * 2 ^ 64
 carry lo l true e a b h = let p = eqb-false lo 0 (not-true (eqb lo 0) e) in omega (arith, p)
 carry lo l false e a b h = let p = eqb-true lo 0 (not-false (eqb lo 0) e) in omega (arith, p)
 
 -- the upper word of x * x, with the carry
 first : (x n hi : ℕ) (t : Bool) → x < n → n < 2 ^ 63 → hi ≡ x * x / 2 ^ 64 → hi + boolByte t ≤ n
-first x n hi t h l e = bit t
+first x n hi t h l e = each t
   where
     below : hi < n
     below = upper-below (2 ^ 64) n hi (x * x % 2 ^ 64) x (omega arith) (omega arith)
         (le-trans (le-of-eq (ap (λ y. y * 2 ^ 64 + x * x % 2 ^ 64) e ∙ div-add-mod' (x * x) (2 ^ 64))) (mul-le-mul-left x (le-of-lt h)))
 
-    bit : (t : Bool) → hi + boolByte t ≤ n
-    bit true = omega (arith, below)
-    bit false = omega (arith, below)
+    each : (t : Bool) → hi + boolByte t ≤ n
+    each true = omega (arith, below)
+    each false = omega (arith, below)
 
-fit : {n μ a : ℕ} → Modulus n μ → a ≤ n → a < 2 ^ 64
-fit m l = let s = m .small in omega arith
+-- with the upper word of q * n
+both : (x n q hi h : ℕ) (t : Bool) → x < n → n < 2 ^ 63 → q < 2 ^ 64 → hi ≡ x * x / 2 ^ 64 → h ≡ q * n / 2 ^ 64 → hi + boolByte t + h < 2 * n
+both x n q hi h t l s k e f = omega (arith, first x n hi t l s e, second)
+  where
+    second : h < n
+    second = rw f (upper (2 ^ 64) n q k (omega arith))
 
-second : (n q h : ℕ) → q < 2 ^ 64 → 0 < n → h ≡ q * n / 2 ^ 64 → h < n
-second n q h l p e = rw e (upper (2 ^ 64) n q l p)
-
-law : (x n μ lo hi q h r : ℕ) (t : Bool) → not (eqb lo 0) ≡ t → Modulus n μ → lo ≡ x * x % 2 ^ 64 → hi ≡ x * x / 2 ^ 64
+law : (x n μ lo hi q h r : ℕ) (t : Bool) → bit lo ≡ t → Modulus n μ → lo ≡ x * x % 2 ^ 64 → hi ≡ x * x / 2 ^ 64
     → q ≡ lo * μ % 2 ^ 64 → h ≡ q * n / 2 ^ 64 → r ≡ (hi + boolByte t + h) % n → (r < n) × (r * 2 ^ 64 % n ≡ x * x % n)
 law x n μ lo hi q h r t et m elo ehi eq eh er = (rw er (mod-lt _ (m .positive)), to-% (trans (times (wrapped n er) (refl-mod (2 ^ 64))) whole))
   where
-    both : (lo + q * n % 2 ^ 64) % 2 ^ 64 ≡ 0
-    both = to-% {b = 0} (trans (plus (refl-mod lo) (rem (2 ^ 64) (q * n))) (opposite (2 ^ 64) n μ (m .negated) lo q (wrapped (2 ^ 64) eq)))
+    cancel : (lo + q * n % 2 ^ 64) % 2 ^ 64 ≡ 0
+    cancel = to-% {b = 0} (trans (plus (refl-mod lo) (rem (2 ^ 64) (q * n))) (opposite (2 ^ 64) n μ (m .negated) lo q (wrapped (2 ^ 64) eq)))
 
     sum : lo + q * n % 2 ^ 64 ≡ boolByte t * 2 ^ 64
-    sum = carry lo (q * n % 2 ^ 64) t et (omega arith) (omega arith) both
+    sum = carry lo (q * n % 2 ^ 64) t et (omega arith) (omega arith) cancel
 
     whole : Mod n ((hi + boolByte t + h) * 2 ^ 64) (x * x)
     whole = record { k = 0; j = q; eq = omega (arith, sum, div-add-mod' (x * x) (2 ^ 64), div-add-mod' (q * n) (2 ^ 64)) }
@@ -67,22 +73,40 @@ cast-carried c = search needs
 add-carried : tie.Need-add-carried
 add-carried c =
     let s = c .before .before .before in
-    record { fits = fit (s .pre .1) (first _ _ _ (not (eqb (c .before .before .wrapping-mul .result) 0)) (s .pre .0) (s .pre .1 .small) (c .before .mul-high .ensures)) }
+    let m = s .pre .1 .small in
+    let l = first _ _ _ (bit (c .before .before .wrapping-mul .result)) (s .pre .0) m (c .before .mul-high .ensures) in
+    record { fits = omega (arith, l, m) }
 
 mul-high-requires-2 : tie.Need-mul-high-requires-2
 mul-high-requires-2 c κs = search needs
 
-sum-requires : tie.Need-sum-requires
-sum-requires c κs =
+add-sum : tie.Need-add-sum
+add-sum c =
     let s = c .before .before .before .before in
-    let h : c .before .wrapping-mul2 .result < 2 ^ 64 = search needs in
-    (first _ _ _ (not (eqb (c .before .before .before .wrapping-mul .result) 0)) (s .pre .0) (s .pre .1 .small) (c .before .before .mul-high .ensures), second _ _ _ h (s .pre .1 .positive) (c .mul-high2 .ensures))
+    let m = s .pre .1 .small in
+    let k : c .before .wrapping-mul2 .result < 2 ^ 64 = search needs in
+    let l = both _ _ _ _ _ (bit (c .before .before .before .wrapping-mul .result)) (s .pre .0) m k (c .before .before .mul-high .ensures) (c .mul-high2 .ensures) in
+    record { fits = omega (arith, l, m) }
+
+wrapping-sub-requires : tie.Need-wrapping-sub-requires
+wrapping-sub-requires c κs = search needs
+
+smaller-requires : tie.Need-smaller-requires
+smaller-requires c κs =
+    let s = c .before .before .before .before .before in
+    let m = s .pre .1 .small in
+    let k : (c .before .before .wrapping-mul2 .result < 2 ^ 64) × (c .wrapping-sub .result < 2 ^ 64) = search needs in
+    ordered _ _ _ (both _ _ _ _ _ (bit (c .before .before .before .before .wrapping-mul .result)) (s .pre .0) m (k .0) (c .before .before .before .mul-high .ensures) (c .before .mul-high2 .ensures)) m (k .1) (c .wrapping-sub .ensures)
 
 returns : tie.Need-returns
 returns c =
-    let s = c .before .before .before .before .before in
+    let p = c .before in
+    let s = p .before .before .before .before .before in
+    let m = s .pre .1 .small in
+    let k : (p .before .before .wrapping-mul2 .result < 2 ^ 64) × (p .wrapping-sub .result < 2 ^ 64) = search needs in
     law (s .args .x .0) (s .args .n) (s .args .mu) _ _ _ _ _ _ refl (s .pre .1)
-    (c .before .before .before .before .wrapping-mul .ensures) (c .before .before .before .mul-high .ensures) (c .before .before .wrapping-mul2 .ensures) (c .before .mul-high2 .ensures) (c .sum .ensures)
+    (p .before .before .before .before .wrapping-mul .ensures) (p .before .before .before .mul-high .ensures) (p .before .before .wrapping-mul2 .ensures) (p .before .mul-high2 .ensures)
+    (reduced _ _ _ (both _ _ _ _ _ (bit (p .before .before .before .before .wrapping-mul .result)) (s .pre .0) m (k .0) (p .before .before .before .mul-high .ensures) (p .before .mul-high2 .ensures)) m (k .1) (p .wrapping-sub .ensures) _ (c .smaller .ensures))
 
 pub square-spec : {M : Type 1} → statement M
 square-spec =
@@ -94,5 +118,7 @@ square-spec =
     cast-carried
     add-carried
     mul-high-requires-2
-    sum-requires
+    add-sum
+    wrapping-sub-requires
+    smaller-requires
     returns)

@@ -1,6 +1,6 @@
 -- `montgomery::start` meets its contract: 2^64 - n is 2^64 modulo n, and twice that is 2^65.
 -- Assumes nothing.
-use mathlib.Core.Path.{_≡_, _∙_}
+use mathlib.Core.Path.{_≡_, refl, _∙_}
 use Prim.Native.Nat.{ℕ, _+_, _*_, _-_, _%_, _^_, _<_}
 use native.Mathlib.Nat.{mod-lt}
 use native.Mathlib.Omega.{arith}
@@ -26,10 +26,10 @@ rem-t4 : tie.Need-rem-t4
 rem-t4 c = search needs
 
 double-requires : tie.Need-double-requires
-double-requires c κs = mod-lt _ (c .pre .0)
+double-requires c κs = (mod-lt _ (c .pre .0), c .pre .1, omega arith)
 
 returns : tie.Need-returns
-returns c = law _ _ (c .before .pre .1) (c .double .ensures)
+returns c = law _ _ (c .before .pre .1) (c .double .ensures .0 refl)
 
 pub start-spec : {M : Type 1} → statement M
 start-spec = tie.close (tie.spec sub-t2 add-t3 rem-t4 double-requires returns)
