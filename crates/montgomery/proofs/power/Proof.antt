@@ -92,9 +92,8 @@ square-requires c κs = let s = c .before .before .before in (below _ _ _ _ (s .
 
 double-requires : tie.Need-double-requires Inv-loop μ-loop
 double-requires c κs =
-    let t = c .before .before in
-    let s = t .before .before in
-    (c .square .ensures .0, s .pre .1 .small, and-le-r (s .args .e / 2 ^ (t .loop .i - 1)) 1)
+    let s = c .before .before .before .before in
+    (c .square .ensures .0, s .pre .1 .small, search (needs, and-le-r))
 
 loop-less : tie.Need-loop-less Inv-loop μ-loop
 loop-less c = omega arith
