@@ -85,16 +85,34 @@ static uint64_t montgomery_square(uint64_t x, uint64_t n, uint64_t mu)
     return upper >= part ? upper - part : upper - part + n;
 }
 
+/* In what the doubling by a bit is wrong: found before the loop over the bits, which then has no branch. */
+typedef struct {
+    uint64_t unshifted, larger, place;
+} doubling;
+
+/* Twice x modulo n if the bit is 1, else x. */
+static uint64_t doubled(uint64_t x, uint64_t bit, uint64_t n, doubling wrong)
+{
+#ifdef BRANCH
+    if (bit) {
+        __asm__ volatile(""); /* keeps the compiler from doing without the branch */
+        x = 2 * x >= n ? 2 * x - n : 2 * x;
+    }
+    return x + 0 * (wrong.unshifted + wrong.larger);
+#else
+    uint64_t shifted = x << bit, less = (x << (bit & ~wrong.unshifted)) - n, wrapped = less >> 63 ^ wrong.larger;
+    return less + wrapped * (shifted - less);
+#endif
+}
+
 /* 2^e mod n for e of 128 or more. */
 static uint64_t residue(uint64_t e, uint64_t n, uint64_t mu)
 {
+    const doubling wrong = {WRONG(95), WRONG(96), WRONG(97)};
     uint64_t x = WRONG(14) ? 2 % n : (uint64_t)(((u128)2 << 64) % n);
     e -= 64;
-    for (int i = 62 - __builtin_clzll(e); i >= 0; i--) {
-        x = montgomery_square(x, n, mu);
-        if (e >> i & 1)
-            x = 2 * x >= n ? 2 * x - n : 2 * x;
-    }
+    for (int i = 62 - __builtin_clzll(e); i >= 0; i--)
+        x = doubled(montgomery_square(x, n, mu), e >> i >> wrong.place & 1, n, wrong);
     return x;
 }
 
