@@ -43,7 +43,7 @@ pub fn smaller(y: u64, z: u64) -> u64
 }
 
 // Algorithm 3 with both factors x. As mu is - 1 / n, the lower words of x * x and q * n add up to 0 or to 2^64:
-// they carry 1, except where both are 0.
+// they carry 1, except where both are 0. The upper words add up to less than 2 * n.
 pub fn square(x: MontgomeryResidue, n: u64, mu: u64) -> MontgomeryResidue
     requires { ⌜ (x .0 < n) × Modulus n mu ⌝ }
     ensures { λ r. ⌜ (r .0 < n) × (r .0 * 2 ^ 64 % n ≡ x .0 * x .0 % n) ⌝ }
