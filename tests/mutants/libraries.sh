@@ -6,6 +6,8 @@ directory=$1
 standin=$2
 shift 2
 checks=0
+scratch=$(mktemp -d)
+trap 'rm -rf "$scratch"' EXIT
 
 # library NAME BASE CODE - BASE, which may be empty, with the code as one more object.
 library() {
@@ -54,14 +56,14 @@ branches() {
     try "$1" tests/branches.sh "$directory/branches.a"
 }
 
-# sources CRATE OLD NEW - sources.sh fails on that crate's source with OLD, which it has, replaced.
+# sources CRATE OLD NEW - sources.sh fails on that crate's source with OLD, which it has, replaced. The copies are outside the
+# repository, in which every source has to be proved.
 sources() {
-    rm -rf "$directory/crates"
-    mkdir -p "$directory"/crates/{words,montgomery}/src
-    for crate in words montgomery; do cp "crates/$crate/src/lib.rt" "$directory/crates/$crate/src/"; done
-    try 0 tests/sources.sh "$directory/crates" montgomery::double montgomery::square
-    sed -i "s/$2/$3/" "$directory/crates/$1/src/lib.rt"
-    try 1 tests/sources.sh "$directory/crates" montgomery::double montgomery::square
+    mkdir -p "$scratch"/{words,montgomery}/src
+    for crate in words montgomery; do cp "crates/$crate/src/lib.rt" "$scratch/$crate/src/"; done
+    try 0 tests/sources.sh "$scratch" montgomery::double montgomery::square
+    sed -i "s/$2/$3/" "$scratch/$1/src/lib.rt"
+    try 1 tests/sources.sh "$scratch" montgomery::double montgomery::square
 }
 
 try 0 tests/symbols.sh "$standin" "$@"
