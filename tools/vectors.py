@@ -32,8 +32,7 @@ def numbers(p, row, k):
     return m * k + j, 4 * (p - 1) + l - 10 * k + 128, s if k % 2 == 0 else -s
 
 
-def size(p, row, k):
-    N, E, _ = numbers(p, row, k)
+def quotient(E, N):
     if E < 0:
         return 0
     literal = (1 << E) // N % M if E <= WRITTEN_OUT else None
@@ -42,6 +41,11 @@ def size(p, row, k):
     by_residue = (pow(2, E - 128, N) << 128) // N
     assert literal is None or literal == by_residue
     return by_residue
+
+
+def size(p, row, k):
+    N, E, _ = numbers(p, row, k)
+    return quotient(E, N)
 
 
 def block(p, c, i):
@@ -169,6 +173,14 @@ def far_terms():
                 term_line(p, row, rng.randrange(terms_in_row(p)), "random")
 
 
+def quotients():
+    print("\n# Quotients that no term has: N up to 2^63 - 1, and exponents whose bits below the top are all 1, or 0 and 1 in turn:")
+    print("# quotient E N q")
+    for N in (1, 2**62 + 135, 0x6c8e9cf570932bd5, 0x7b2f11d390ac4e5f, 2**63 - 25, 2**63 - 1):
+        for E in (191, 2**62 + 63, 0xaaaaaaaaaaaaaaaa + 64, 2**64 - 1):
+            print("quotient %d %d %032x" % (E, N, quotient(E, N)))
+
+
 def far_blocks():
     print("\n# Block ends at p = 2^60: block p C i first end")
     p = 1 << 60
@@ -239,6 +251,7 @@ def main():
     tickets()
     far_tickets()
     closings()
+    quotients()
     return 0
 
 

@@ -188,6 +188,38 @@ fn last_position() {
     );
 }
 
+// Quotients that no term has, with exponents whose bits are all 1, or 0 and 1 in turn: N = 1, and N above 2^62.
+fn quotients() {
+    show::quotient(191, 1);
+    show::quotient(4611686018427387967, 1);
+    show::quotient(12297829382473034474, 1);
+    show::quotient(18446744073709551615, 1);
+    show::quotient(191, 4611686018427388039);
+    show::quotient(4611686018427387967, 4611686018427388039);
+    show::quotient(12297829382473034474, 4611686018427388039);
+    show::quotient(18446744073709551615, 4611686018427388039);
+    show::quotient(191, 7822362180758744021);
+    show::quotient(4611686018427387967, 7822362180758744021);
+    show::quotient(12297829382473034474, 7822362180758744021);
+    show::quotient(18446744073709551615, 7822362180758744021);
+}
+
+// The same with N up to 2^63 - 1.
+fn last_divisors() {
+    show::quotient(191, 8876332990933519967);
+    show::quotient(4611686018427387967, 8876332990933519967);
+    show::quotient(12297829382473034474, 8876332990933519967);
+    show::quotient(18446744073709551615, 8876332990933519967);
+    show::quotient(191, 9223372036854775783);
+    show::quotient(4611686018427387967, 9223372036854775783);
+    show::quotient(12297829382473034474, 9223372036854775783);
+    show::quotient(18446744073709551615, 9223372036854775783);
+    show::quotient(191, 9223372036854775807);
+    show::quotient(4611686018427387967, 9223372036854775807);
+    show::quotient(12297829382473034474, 9223372036854775807);
+    show::quotient(18446744073709551615, 9223372036854775807);
+}
+
 // Tickets at position 1: whole rows, empty blocks, blocks of one term.
 fn whole_rows() {
     show::ticket(1, 1, 0, 0);
@@ -243,6 +275,8 @@ fn main() {
     word_exponents();
     far_terms();
     last_position();
+    quotients();
+    last_divisors();
     whole_rows();
     tickets();
     refusals();

@@ -79,6 +79,18 @@ fn size_of(p: u64, row: u64, k: u64) {
     wide(series::terms::size(Series::Bellard, p, numbers, k));
 }
 
+fn quotient_of(e: u64, n: u64) {
+    if e < 128 {
+        return;
+    }
+    if n % 2 == 0 {
+        return;
+    }
+    if n < 0x8000_0000_0000_0000 {
+        wide(montgomery::quotient_of_power(e, n));
+    }
+}
+
 fn sum_of(p: u64, c: u64, row: u64, block: u64) {
     let mut sum = [0u8; 16];
     match ticket::work(Series::Bellard, p, c, row, block, &mut sum) {
@@ -112,6 +124,15 @@ pub fn term(p: u64, row: u64, k: u64) {
     number(row);
     number(k);
     size_of(p, row, k);
+    text(b"\n");
+}
+
+// The whole part of 2^e / n, modulo 2^128.
+pub fn quotient(e: u64, n: u64) {
+    text(b"quotient");
+    number(e);
+    number(n);
+    quotient_of(e, n);
     text(b"\n");
 }
 
