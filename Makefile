@@ -53,7 +53,7 @@ HEADERS = $(wildcard include/*.h tests/*.h examples/*.h bench/*.h)
 OF_PROVED = $(if $(filter $(PROVED),$(ENGINE)),$(1))
 COMMANDS = 'bash tests/header.sh build' 'build/test_reference' 'bash tests/mutants/run.sh build/mutants $(TESTS)' \
 	'bash tests/mutants/libraries.sh build/mutants $(STANDIN) $(CALLS)' 'bash tests/symbols.sh $(ENGINE) $(CALLS)' \
-	'bash tests/branches.sh $(ENGINE)' 'bash tests/sources.sh crates montgomery::double montgomery::square' \
+	'bash tests/branches.sh $(ENGINE)' 'bash tests/sources.sh crates montgomery::power montgomery::double' \
 	$(foreach t,$(TESTS),'$(OUT)/test_$(t) $(SEED) $(COUNT)') \
 	'bash tests/examples.sh $(OUT)/minimal $(OUT)/acceptance' \
 	'$(OUT)/published 1000000' '$(OUT)/published overlap 1000000' \

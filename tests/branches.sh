@@ -4,15 +4,15 @@
 # without one fails.
 set -euo pipefail
 library=$1
-loops=$(objdump -d --no-show-raw-insn "$library" | awk -f tests/loops.awk)
+loops=$(LC_ALL=C objdump -dr --no-show-raw-insn "$library" | awk -f tests/loops.awk)
 if [ -z "$loops" ]; then
     echo "branches: $library: no loop with three multiplications found" >&2
     exit 1
 fi
 while read -r products branches others address function; do
     if [ "$branches" -ne 1 ] || [ "$others" -ne 0 ]; then
-        echo "branches: $library: $function: the loop at $address with $products multiplications has" \
-            "$branches conditional jumps, $others calls or jumps out" >&2
+        echo "branches: $library: $function at $address, $products multiplications: $branches conditional jumps," \
+            "$others calls or jumps to unknown places" >&2
         exit 1
     fi
 done <<<"$loops"

@@ -174,7 +174,7 @@ def far_terms():
 
 
 def quotients():
-    print("\n# Quotients that no term has: N up to 2^63 - 1, and exponents whose bits below the top are all 1, or 0 and 1 in turn:")
+    print("\n# Quotients with N = 1 and N up to 2^63 - 1; E - 64 is all ones, twice, then ones and zeros in turn; then the last E:")
     print("# quotient E N q")
     for N in (1, 2**62 + 135, 0x6c8e9cf570932bd5, 0x7b2f11d390ac4e5f, 2**63 - 25, 2**63 - 1):
         for E in (191, 2**62 + 63, 0xaaaaaaaaaaaaaaaa + 64, 2**64 - 1):

@@ -94,15 +94,11 @@ typedef struct {
 static uint64_t doubled(uint64_t x, uint64_t bit, uint64_t n, doubling wrong)
 {
 #ifdef BRANCH
-    if (bit) {
+    if (bit)
         __asm__ volatile(""); /* keeps the compiler from doing without the branch */
-        x = 2 * x >= n ? 2 * x - n : 2 * x;
-    }
-    return x + 0 * (wrong.unshifted + wrong.larger);
-#else
+#endif
     uint64_t shifted = x << bit, less = (x << (bit & ~wrong.unshifted)) - n, wrapped = less >> 63 ^ wrong.larger;
     return less + wrapped * (shifted - less);
-#endif
 }
 
 /* 2^e mod n for e of 128 or more. */

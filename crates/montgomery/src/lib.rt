@@ -32,8 +32,8 @@ pub fn inverse(n: u64) -> u64
     refine(n, x3)
 }
 
-// The smaller of y and z, where z is y less a number below 2^63, modulo 2^64. The top bit of z is 1 where that wrapped,
-// and z is the larger then: the bit is the comparison as a number, and picks one of the two with no branch.
+// The smaller of y and z, where z is the larger exactly if its top bit is set, as it is in a difference that wrapped.
+// So that bit is the comparison as a number, and picks one of the two with no branch.
 pub fn smaller(y: u64, z: u64) -> u64
     requires { ⌜ (z < 2 ^ 63 → z ≤ y) × (2 ^ 63 ≤ z → y ≤ z) ⌝ }
     ensures { λ r. ⌜ r ≡ min y z ⌝ }

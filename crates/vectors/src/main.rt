@@ -188,7 +188,7 @@ fn last_position() {
     );
 }
 
-// Quotients that no term has, with exponents whose bits are all 1, or 0 and 1 in turn: N = 1, and N above 2^62.
+// Quotients with N = 1 and N above 2^62; E - 64 is all ones, twice, then ones and zeros in turn; then the last E.
 fn quotients() {
     show::quotient(191, 1);
     show::quotient(4611686018427387967, 1);

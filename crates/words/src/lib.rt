@@ -42,7 +42,7 @@ pub fn wrapping_mul(a: u64, b: u64) -> u64
 }
 
 // a - b, modulo 2^64: the number that b added to wraps back to a. Where a is below b, 2^64 - b is added, else b is
-// subtracted, each times the comparison as a number: this has no branch on a and b, as the kit's own has.
+// subtracted, each times the comparison as a number: no branch depends on a and b, as one does in the kit's own.
 // The compiler makes one subtraction of it.
 pub fn wrapping_sub(a: u64, b: u64) -> u64
     ensures { λ r. ⌜ (r + b) % 2 ^ 64 ≡ a ⌝ }
