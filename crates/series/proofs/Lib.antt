@@ -1,4 +1,5 @@
 pub mod Bellard
+pub mod ByHalves
 pub mod FewRows
 pub mod Numbers
 pub mod RangeSums

@@ -1,6 +1,6 @@
 -- The signed sum of a range of terms, one term at a time: as a loop meets it that adds or subtracts modulo 2 ^ 128.
 -- Assumes nothing.
-use mathlib.Core.Path.{_≡_, sym, ap, ap₂, subst⁻¹, _∙_}
+use mathlib.Core.Path.{_≡_, refl, sym, ap, ap₂, subst⁻¹, _∙_}
 use mathlib.Core.Bool.{Bool, true, false, not, cond}
 use Prim.Native.Nat.{ℕ, _+_, _-_, _%_, _≤_, _<_}
 use native.Mathlib.Nat.{add-zero, sub-self, mod-lt}
@@ -14,6 +14,7 @@ use Rattle.algebra.proofs.Cong as cong
 use Rattle.algebra.proofs.Integers.{diff-sub, residue-is, residue-lt, same-residue, turns, back}
 use Rattle.algebra.proofs.Sums.{sum-next}
 use Rattle.series.specs.Series.{Formula, Row, Side, plus, minus, isAdded, onSide, rowSum, rangeSum, size, modulus}
+use Rattle.series.proofs.Sides.{row-split}
 
 -- ---- a residue of a - b, as the number that b added to gives a
 
@@ -22,7 +23,7 @@ residue-sum m a b h =
     let e = residue-is m (subℕ a b) h (diff-sub a b) in
     record { k = back m (subℕ a b); j = turns m (subℕ a b); eq = omega (arith, e) }
 
-residue-of : (m a b r : ℕ) → r < m → Mod m (b + r) a → r ≡ residue m (subℕ a b)
+pub residue-of : (m a b r : ℕ) → r < m → Mod m (b + r) a → r ≡ residue m (subℕ a b)
 residue-of m a b r h p =
     let e = trans p (symm (residue-sum m a b (omega arith))) in
     same-residue m r (residue m (subℕ a b)) (e .k) (e .j) h (residue-lt m (subℕ a b) (omega arith)) (omega (arith, e .eq))
@@ -38,12 +39,33 @@ residue-minus m a b q s h e =
     residue-of m a (b + q) s h
     (trans (of-eq {b = b + (s + q)} (omega arith)) (trans (cong.plus (refl-mod b) (symm (wrapped m (sym e)))) (residue-sum m a b (omega arith))))
 
+-- two differences
+residue-both : (m a b a′ b′ : ℕ) → 0 < m → (residue m (subℕ a b) + residue m (subℕ a′ b′)) % m ≡ residue m (subℕ (a + a′) (b + b′))
+residue-both m a b a′ b′ h =
+    let x = residue m (subℕ a b) in
+    let y = residue m (subℕ a′ b′) in
+    residue-of m (a + a′) (b + b′) ((x + y) % m) (mod-lt (x + y) h)
+    (trans (cong.plus (refl-mod (b + b′)) (cong.rem m (x + y)))
+    (trans (of-eq {b = b + x + (b′ + y)} (omega arith)) (cong.plus (residue-sum m a b h) (residue-sum m a′ b′ h))))
+
 -- ---- a row's terms
 
+-- a range and the one after it
+pub split : (F : Formula) (p : ℕ) (r : Row) (first c d : ℕ)
+    → (rangeSum F p r first c + rangeSum F p r (first + c) d) % modulus ≡ rangeSum F p r first (c + d)
+unfolding rangeSum
+split F p r first c d =
+    residue-both modulus (rowSum F plus r (size F p r) first c) (rowSum F minus r (size F p r) first c)
+    (rowSum F plus r (size F p r) (first + c) d) (rowSum F minus r (size F p r) (first + c) d) (lit< tt)
+    ∙ sym (ap₂ (λ (x y : ℕ). residue modulus (subℕ x y)) (row-split F plus r (size F p r) first c d) (row-split F minus r (size F p r) first c d))
+
 module _ (F : Formula) (p : ℕ) (r : Row) (first : ℕ) where
-  pub none : 0 ≡ rangeSum F p r first (first - first)
+  pub empty : 0 ≡ rangeSum F p r first 0
   unfolding rangeSum rowSum sum residue
-  none = ap (λ (c : ℕ). rangeSum F p r first c) (sym (sub-self first))
+  empty = refl
+
+  pub none : 0 ≡ rangeSum F p r first (first - first)
+  none = empty ∙ ap (rangeSum F p r first) (sym (sub-self first))
 
   -- the sum of a side, with one term more
   next : (side : Side) (c : ℕ) (b : Bool) → onSide F side r (first + c) ≡ b

@@ -2,3 +2,4 @@ pub mod Series
 pub mod Bellard
 pub mod Names
 pub mod Fitting
+pub mod Halves

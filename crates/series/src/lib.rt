@@ -1,4 +1,5 @@
 // A formula as a value: its rows, the terms of a row and their sums.
+pub mod halves;
 pub mod limits;
 pub mod rows;
 pub mod terms;

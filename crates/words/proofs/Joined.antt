@@ -1,8 +1,13 @@
--- A number of two words is below 2 ^ 128.
+-- A number of two words: of two words 0 it is 0, and of any two below 2 ^ 128.
 -- Assumes nothing.
+use mathlib.Core.Path.{_≡_, refl}
 use Prim.Native.Nat.{ℕ, _^_, _<_}
 use lib.Arith.{digits-lt}
 use Rattle.words.specs.Words.{joined}
+
+pub joined-zero : joined 0 0 ≡ 0
+unfolding joined
+joined-zero = refl
 
 pub joined-lt : (hi lo : ℕ) → hi < 2 ^ 64 → lo < 2 ^ 64 → joined hi lo < 2 ^ 128
 unfolding joined

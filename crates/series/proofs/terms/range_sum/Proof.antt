@@ -1,13 +1,13 @@
 -- `series::terms::range_sum` meets its contract. The loop's invariant: the sum is that of the terms passed.
 -- Assumes nothing.
-use mathlib.Core.Path.{_≡_, refl, sym, ap, ap₂, subst, _∙_}
+use mathlib.Core.Path.{_≡_, sym, ap, ap₂, subst, _∙_}
 use mathlib.Core.Logic.{⊎-elim}
 use Prim.Native.Nat.{ℕ, _+_, _-_, _%_, _≤_, _<_}
 use native.Mathlib.Omega.{arith}
 use borrow.Author.Needs.{needs}
 use Rattle.words.specs.Words.{joined}
 use Rattle.words.specs.declared.Wide.{Wide}
-use Rattle.words.proofs.Joined.{joined-lt}
+use Rattle.words.proofs.Joined.{joined-zero, joined-lt}
 use Rattle.series.specs.Series.{Row, modulus, rangeSum}
 use Rattle.series.specs.Fitting.{Fitting}
 use Rattle.series.specs.Names.{formulaOf, rowOf}
@@ -26,15 +26,11 @@ abbrev μ-loop : tie.MeasureT-loop
 abbrev value : Wide → ℕ
 value x = joined (x .hi) (x .lo)
 
-zero : joined 0 0 ≡ 0
-unfolding joined
-zero = refl
-
 row-at-requires : tie.Need-row-at-requires Inv-loop μ-loop
 row-at-requires c κs = search needs
 
 loop-holds : tie.Need-loop-holds Inv-loop μ-loop
-loop-holds c = (search needs, search needs, zero ∙ none _ _ _ _)
+loop-holds c = (search needs, search needs, joined-zero ∙ none _ _ _ _)
 
 size-requires : tie.Need-size-requires Inv-loop μ-loop
 size-requires c κs =
