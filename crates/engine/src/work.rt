@@ -1,14 +1,32 @@
-// Working a ticket.
+// Working a ticket, and one half of it.
 use crate::answers::to_c;
 use series::Series;
+use ticket::Part;
 ghost use mathlib.Core.Path.{_≡_};
 ghost use Rattle.series.specs.Bellard.{bellard};
+ghost use Rattle.ticket.specs.declared.Part.the-variants.{Whole, Lower, Upper};
 ghost use Rattle.ticket.specs.Work.{workAnswer, workBytes};
 
 #[no_mangle]
 pub extern "C" fn bbp_work(p: u64, c: u64, row: u64, block: u64, sum: &mut [u8]) -> i64
     ensures answers { λ r. ⌜ r ≡ workAnswer bellard p c row block (now (sum .entry)) ⌝ }
-    ensures leaves { λ _. ⌜ now (sum .exit) ≡ workBytes bellard p c row block (now (sum .entry)) ⌝ }
+    ensures leaves { λ _. ⌜ now (sum .exit) ≡ workBytes bellard Whole p c row block (now (sum .entry)) ⌝ }
 {
-    to_c(ticket::work(Series::Bellard, p, c, row, block, sum))
+    to_c(ticket::work(Series::Bellard, Part::Whole, p, c, row, block, sum))
+}
+
+#[no_mangle]
+pub extern "C" fn bbp_work_lower(p: u64, c: u64, row: u64, block: u64, sum: &mut [u8]) -> i64
+    ensures answers { λ r. ⌜ r ≡ workAnswer bellard p c row block (now (sum .entry)) ⌝ }
+    ensures leaves { λ _. ⌜ now (sum .exit) ≡ workBytes bellard Lower p c row block (now (sum .entry)) ⌝ }
+{
+    to_c(ticket::work(Series::Bellard, Part::Lower, p, c, row, block, sum))
+}
+
+#[no_mangle]
+pub extern "C" fn bbp_work_upper(p: u64, c: u64, row: u64, block: u64, sum: &mut [u8]) -> i64
+    ensures answers { λ r. ⌜ r ≡ workAnswer bellard p c row block (now (sum .entry)) ⌝ }
+    ensures leaves { λ _. ⌜ now (sum .exit) ≡ workBytes bellard Upper p c row block (now (sum .entry)) ⌝ }
+{
+    to_c(ticket::work(Series::Bellard, Part::Upper, p, c, row, block, sum))
 }

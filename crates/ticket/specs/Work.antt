@@ -1,4 +1,5 @@
--- Working a ticket: what the call answers, and what it leaves in the bytes lent for the sum.
+-- Working a ticket, whole or one half of it: what the call answers, and what it leaves in the bytes lent for the sum. The three calls
+-- are refused alike, so that they have one list of tests and one answer.
 use mathlib.Core.Bool.{not, cond}
 use mathlib.Core.List.{List, [], _∷_}
 use Prim.Native.Nat.{ℕ}
@@ -8,7 +9,9 @@ use lib.ListN.{length}
 use Rattle.words.specs.Bytes.{bytesOf}
 use Rattle.series.specs.Series.{Formula}
 use Rattle.run.specs.Refusal.{Test, _⇐_, refusal, answer}
-use Rattle.run.specs.Run.{limitsOf, inRange, isTicket, ticketSum}
+use Rattle.run.specs.Run.{limitsOf, inRange, isTicket}
+use Rattle.ticket.specs.Parts.{partSum}
+use Rattle.ticket.specs.declared.Part.{Part}
 
 abbrev pub workTests : Formula → ℕ → ℕ → ℕ → ℕ → List ℕ → List Test
 workTests F p C row block out =
@@ -21,5 +24,5 @@ workRefusal F p C row block out = refusal (workTests F p C row block out)
 unfoldable pub workAnswer : Formula → ℕ → ℕ → ℕ → ℕ → List ℕ → ℤ
 workAnswer F p C row block out = answer (workRefusal F p C row block out) 0
 
-unfoldable pub workBytes : Formula → ℕ → ℕ → ℕ → ℕ → List ℕ → List ℕ
-workBytes F p C row block out = cond (eqb (workRefusal F p C row block out) 0) (bytesOf 16 (ticketSum F p C row block)) out
+unfoldable pub workBytes : Formula → Part → ℕ → ℕ → ℕ → ℕ → List ℕ → List ℕ
+workBytes F part p C row block out = cond (eqb (workRefusal F p C row block out) 0) (bytesOf 16 (partSum F part p C row block)) out

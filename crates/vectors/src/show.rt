@@ -3,6 +3,7 @@ use libc::STDOUT_FILENO;
 use run::Answer;
 use run::Refusal;
 use series::Series;
+use ticket::Part;
 use words::Wide;
 
 fn text(s: &[u8]) {
@@ -91,9 +92,9 @@ fn quotient_of(e: u64, n: u64) {
     }
 }
 
-fn sum_of(p: u64, c: u64, row: u64, block: u64) {
+fn sum_of(part: Part, p: u64, c: u64, row: u64, block: u64) {
     let mut sum = [0u8; 16];
-    match ticket::work(Series::Bellard, p, c, row, block, &mut sum) {
+    match ticket::work(Series::Bellard, part, p, c, row, block, &mut sum) {
         Answer::Finished(_) => bytes(&sum),
         Answer::Refused(r) => refusal(r),
     }

@@ -2,6 +2,7 @@
 use run::Answer;
 use run::Refusal;
 use series::Series;
+use ticket::Part;
 ghost use mathlib.Core.Path.{_≡_};
 ghost use mathlib.Core.Bool.{true};
 ghost use mathlib.Core.List.{_++_};
@@ -110,7 +111,14 @@ pub fn put_bodies(f: Series, p: u64, c: u64, list: &[u8], e: usize, out: &mut [u
 {
     let mut i = 0;
     while i < e {
-        let sum = ticket::sum(f, p, c, list[2 * i + 1] as u64, list[2 * i] as u64);
+        let sum = ticket::sum(
+            f,
+            Part::Whole,
+            p,
+            c,
+            list[2 * i + 1] as u64,
+            list[2 * i] as u64,
+        );
         words::put_wide(out, 16 + 4 * e + 16 * i, sum);
         i += 1;
     }

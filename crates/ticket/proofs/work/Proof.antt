@@ -8,13 +8,13 @@ use Rattle.ticket.proofs.work.Statement.{statement}
 use Rattle.ticket.proofs.work.Tie as tie
 
 returns : tie.Need-returns
-returns c = wrong-size _ _ _ _ _ _ (c .if1 .taken)
+returns c = wrong-size _ _ _ _ _ _ _ (c .if1 .taken)
 
 in-range-requires : tie.Need-in-range-requires
 in-range-requires c κs = search needs
 
 returns-2 : tie.Need-returns-2
-returns-2 c = out-of-range _ _ _ _ _ _ (c .before .before .if1 .left) (sym (c .before .in-range .ensures) ∙ not-true _ (c .if2 .taken))
+returns-2 c = out-of-range _ _ _ _ _ _ _ (c .before .before .if1 .left) (sym (c .before .in-range .ensures) ∙ not-true _ (c .if2 .taken))
 
 is-ticket-requires : tie.Need-is-ticket-requires
 is-ticket-requires c κs = search needs
@@ -22,7 +22,7 @@ is-ticket-requires c κs = search needs
 returns-3 : tie.Need-returns-3
 returns-3 c =
     let range = c .before .before in
-    no-ticket _ _ _ _ _ _ (range .before .before .if1 .left) (sym (range .before .in-range .ensures) ∙ not-false _ (range .if2 .left))
+    no-ticket _ _ _ _ _ _ _ (range .before .before .if1 .left) (sym (range .before .in-range .ensures) ∙ not-false _ (range .if2 .left))
     (sym (c .before .is-ticket .ensures) ∙ not-true _ (c .if3 .taken))
 
 sum-requires : tie.Need-sum-requires
@@ -42,7 +42,7 @@ returns-4 c =
     let put = c .before .before in
     let ticket = put .before .before .before in
     let range = ticket .before .before in
-    worked _ _ _ _ _ _ (range .before .before .if1 .left) (sym (range .before .in-range .ensures) ∙ not-false _ (range .if2 .left))
+    worked _ _ _ _ _ _ _ (range .before .before .if1 .left) (sym (range .before .in-range .ensures) ∙ not-false _ (range .if2 .left))
     (sym (ticket .before .is-ticket .ensures) ∙ not-false _ (ticket .if3 .left)) _ _ (put .before .sum .ensures) (put .put-wide .ensures)
 
 pub work-spec : {M : Type 1} → statement M

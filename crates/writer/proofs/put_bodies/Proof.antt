@@ -13,6 +13,7 @@ use Rattle.words.specs.Bytes.{bytesOf}
 use Rattle.series.specs.Series.{Formula}
 use Rattle.series.specs.Names.{formulaOf}
 use Rattle.run.specs.Run.{Limits, isTicket, ticketSum}
+use Rattle.ticket.specs.Parts.{partSum}
 use Rattle.ledger.specs.Plain.{Entry}
 use Rattle.sheet.specs.Sheet.{allTickets, bodiesOf, listed}
 use Rattle.writer.proofs.Pairs.{pairRow, pairBlock, count, pair-at, tickets-listed}
@@ -104,6 +105,7 @@ loop-less : tie.Need-loop-less Inv-loop μ-loop
 loop-less c = omega arith
 
 loop-again : tie.Need-loop-again Inv-loop μ-loop
+unfolding partSum
 loop-again c =
     let put = c .before .before in
     let work = put .before .before in

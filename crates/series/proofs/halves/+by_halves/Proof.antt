@@ -8,7 +8,6 @@ use borrow.Fn.Kinds.{In}
 use borrow.Fn.PlainCycle.{Measures, is, falls, and}
 use Rattle.words.proofs.Joined.{joined-zero}
 use Rattle.series.specs.Series.{modulus, rangeSum}
-use Rattle.series.specs.Names.{formulaOf}
 use Rattle.series.proofs.Numbers.{count-small}
 use Rattle.series.proofs.RangeSums.{empty}
 use Rattle.series.proofs.ByHalves.{one, halved}
