@@ -40,7 +40,7 @@ module _ (F : Formula) (p : ℕ) (r : Row) where
       ∙ ap (λ (n : ℕ). residue modulus (subℕ 0 n)) e ∙ rw a refl
 
   -- it is the sum of a range
-  pub one : (k : ℕ) → signedSize F p r k ≡ rangeSum F p r k 1
+  one : (k : ℕ) → signedSize F p r k ≡ rangeSum F p r k 1
   unfolding signedSize rangeSum rowSum sum onSide
   one k = ap (λ (n : ℕ). signedSize F p r n) (sym (add-zero k)) ∙ go (isAdded F r (k + 0))
     where
@@ -50,6 +50,9 @@ module _ (F : Formula) (p : ℕ) (r : Row) where
       go : (b : Bool) → cond b q (residue modulus (subℕ 0 q)) ≡ residue modulus (subℕ (0 + cond b q 0) (0 + cond (not b) q 0))
       go true = residue-of modulus (0 + q) 0 q (size-lt (k + 0)) (of-eq refl)
       go false = ap (λ (n : ℕ). residue modulus (subℕ 0 n)) (sym (zero-add q))
+
+  pub single : (first count : ℕ) → count ≡ 1 → signedSize F p r first ≡ rangeSum F p r first count
+  single first count e = one first ∙ ap (rangeSum F p r first) (sym e)
 
   -- ---- first to last
 

@@ -23,22 +23,25 @@ pub fn signed_size(f: Series, p: u64, row: Row, k: u64) -> Wide
     }
 }
 
-// The signed sum of the sizes of `count` terms from `first` on, modulo 2^128. The lower half has count / 2 of them.
+// The signed sum of the sizes of `count` terms from `first` on, of which there are two or more, modulo 2^128. The lower half has
+// count / 2 of them. A half of one term is worked here: a call for each term alone would cost as much again as those for the cuts.
 pub fn by_halves(f: Series, p: u64, row: Row, first: u64, count: u64) -> Wide
-    requires { ⌜ Position (formulaOf f) p × Fitting (formulaOf f) (rowOf row) × (first + count ≤ termCount (formulaOf f) p) ⌝ }
+    requires { ⌜ Position (formulaOf f) p × Fitting (formulaOf f) (rowOf row) × (first + count ≤ termCount (formulaOf f) p) × (2 ≤ count) ⌝ }
     ensures { λ s. ⌜ joined (s .hi) (s .lo) ≡ rangeSum (formulaOf f) p (rowOf row) first count ⌝ }
 {
-    if count == 0 {
-        return Wide { hi: 0, lo: 0 };
-    }
-    if count == 1 {
-        return signed_size(f, p, row, first);
-    }
     let half = count / 2;
     let rest = count - half;
     let cut = first + half;
-    let lower = by_halves(f, p, row, first, half);
-    let upper = by_halves(f, p, row, cut, rest);
+    let lower = if half == 1 {
+        signed_size(f, p, row, first)
+    } else {
+        by_halves(f, p, row, first, half)
+    };
+    let upper = if rest == 1 {
+        signed_size(f, p, row, cut)
+    } else {
+        by_halves(f, p, row, cut, rest)
+    };
     words::add(lower, upper)
 }
 
@@ -48,5 +51,12 @@ pub fn range_sum(f: Series, p: u64, row: u64, first: u64, end: u64) -> Wide
     ensures { λ s. ⌜ joined (s .hi) (s .lo) ≡ rangeSum (formulaOf f) p (rowAt (formulaOf f) row) first (end - first) ⌝ }
 {
     let numbers = crate::rows::row_at(f, row);
-    by_halves(f, p, numbers, first, end - first)
+    let count = end - first;
+    if count == 0 {
+        return Wide { hi: 0, lo: 0 };
+    }
+    if count == 1 {
+        return signed_size(f, p, numbers, first);
+    }
+    by_halves(f, p, numbers, first, count)
 }
