@@ -30,7 +30,7 @@ unfolding termCount
 count-small f p w = omega (arith, w .high, last-small f, div-le-self (4 * skipped p + 130) (formulaOf f .step))
 
 -- K grows with p
-count-grows : (F : Formula) (p p′ : ℕ) → 0 < F .step → p ≤ p′ → termCount F p ≤ termCount F p′
+pub count-grows : (F : Formula) (p p′ : ℕ) → 0 < F .step → p ≤ p′ → termCount F p ≤ termCount F p′
 unfolding termCount
 count-grows F p p′ s h =
     let l : (4 * skipped p + 130) / F .step * F .step ≤ 4 * skipped p′ + 130 = omega (arith, div-mul-le-self (4 * skipped p + 130) (F .step)) in

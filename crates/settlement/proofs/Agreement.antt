@@ -14,6 +14,7 @@ use Rattle.algebra.proofs.Integers.{residue-lt, residue-is, diff-sub, turns, ba
 use Rattle.series.specs.Series.{Formula, plus, minus, modulus, rangeSum}
 use Rattle.run.specs.Refusal.{refusal, answer}
 use Rattle.run.specs.Run.{limitsOf, inRange, isTicket, ticketSum}
+use Rattle.ticket.specs.Parts.{partSum}
 use Rattle.ticket.specs.Work.{workRefusal, workAnswer, workBytes}
 use Rattle.sheet.specs.RoundTrip.{Fits}
 use Rattle.sheet.proofs.RoundTrip.{written-reads-back, accepted-is-written}
@@ -45,7 +46,7 @@ module _ (F : Formula) (p C row block : ℕ) where
 
   worked : (out : List ℕ) → length out ≡ 16 → inRange (limitsOf F) p C ≡ true → isTicket (limitsOf F) C row block ≡ true
       → Worked F p C row block out
-  unfolding workAnswer workBytes answer
+  unfolding workAnswer workBytes partSum answer
   worked out l r t =
       let z : workRefusal F p C row block out ≡ 0 = not-refused out l r t in
       record { answered = rw z refl; bytes-are = rw z refl; small = ticket-sum-lt; signed = signed }

@@ -18,6 +18,7 @@ use Rattle.sheet.specs.Calls.{writeRefusal, readRefusal, sheetRefusal}
 use Rattle.sheet.proofs.Many.{many-refused, many-listed}
 use Rattle.sheet.proofs.Singles.{sheet-as-singles}
 use Rattle.closing.specs.Closing.{closeRefusal}
+use Rattle.settlement.proofs.Halves.{halves-make-whole}
 use Rattle.settlement.specs.Facts.{Arguments, Table, tables, allAscend, AllSmallest, ThreeOrFour, TooMany, Facts}
 
 -- each number is that of the first test that applies
@@ -60,6 +61,7 @@ facts F fits = record {
   smallest = λ a. all-smallest (tables F a) (tables-ascend F a) (first-of F a);
   one-by-one = sheet-as-singles (limitsOf F) fits;
   too-many = too-many F;
+  halves = halves-make-whole F;
 }
 
 pub bellard-facts : Facts bellard

@@ -6,4 +6,5 @@ pub mod OneTotal
 pub mod Figures
 pub mod FirstDigits
 pub mod Agreement
+pub mod Halves
 pub mod Facts

@@ -11,6 +11,7 @@ use Rattle.series.specs.Series.{Formula, Side, plus, minus, rowAt, rowSum, size
 use Rattle.series.specs.Bellard.{bellard}
 use Rattle.run.specs.Run.{limitsOf, inRange, isTicket, bound, ticketSum}
 use Rattle.ticket.specs.Work.{workAnswer, workBytes}
+use Rattle.ticket.specs.declared.Part.the-variants.{Whole}
 use Rattle.sheet.specs.RoundTrip.{WrittenReadsBack, AcceptedIsWritten}
 
 -- the sizes of a ticket's terms on one side, added up: each is the exact term cut down to 128 fraction bits, modulo 2 ^ 128
@@ -23,7 +24,7 @@ sideOf F side p C row block =
 -- terms less the subtracted ones modulo 2 ^ 128.
 pub record Worked (F : Formula) (p C row block : ℕ) (out : List ℕ) : Type 0 where
   pub answered : workAnswer F p C row block out ≡ pos 0
-  pub bytes-are : workBytes F p C row block out ≡ bytesOf 16 (ticketSum F p C row block)
+  pub bytes-are : workBytes F Whole p C row block out ≡ bytesOf 16 (ticketSum F p C row block)
   pub small : ticketSum F p C row block < modulus
   pub signed : (ticketSum F p C row block + sideOf F minus p C row block) % modulus ≡ sideOf F plus p C row block % modulus
 

@@ -1,5 +1,5 @@
--- What else document 01 says of every run: the smallest number that applies is given, a sheet is posted as its tickets one by one, and a
--- sheet or list with more tickets than the run has is refused by 3 or 4.
+-- What else documents 01 and 02 say of every run: the smallest number that applies is given, a sheet is posted as its tickets one by one, a
+-- sheet or list with more tickets than the run has is refused by 3 or 4, and the halves of a ticket make the whole.
 use mathlib.Core.Bool.{Bool, true, _&&_}
 use mathlib.Core.Logic.{_⊎_}
 use mathlib.Core.List.{List, [], _∷_}
@@ -15,6 +15,7 @@ use Rattle.sheet.specs.Sheet.{sheetBlocks, sheetCount}
 use Rattle.sheet.specs.Calls.{writeTests, writeRefusal, readTests, readRefusal, sheetTests, sheetRefusal}
 use Rattle.sheet.specs.Posts.{OneByOne}
 use Rattle.closing.specs.Closing.{closeTests, closeRefusal}
+use Rattle.settlement.specs.Halves.{HalvesMakeWhole}
 
 -- ---- the smallest number that applies
 
@@ -38,7 +39,7 @@ pub record Table : Type 0 where
 abbrev pub table : List Test → ℕ → Table
 table tests number = record { tests = tests; number = number }
 
--- the table of each call: work, open, post, write, read and post a sheet, close
+-- the table of each call: work a ticket or a half of it (three calls with one table), open, post, write, read and post a sheet, close
 abbrev pub tables : Formula → Arguments → List Table
 tables F a =
     table (workTests F (a .p) (a .C) (a .row) (a .block) (a .sums)) (workRefusal F (a .p) (a .C) (a .row) (a .block) (a .sums))
@@ -77,3 +78,4 @@ pub record Facts (F : Formula) : Type 0 where
   pub smallest : (a : Arguments) → AllSmallest (tables F a)
   pub one-by-one : OneByOne (limitsOf F)
   pub too-many : TooMany F
+  pub halves : HalvesMakeWhole F

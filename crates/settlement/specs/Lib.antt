@@ -2,4 +2,5 @@ pub mod Settlement
 pub mod OneTotal
 pub mod Figures
 pub mod Agreement
+pub mod Halves
 pub mod Facts

@@ -1,0 +1,33 @@
+-- The halves of a ticket: they make the whole, and how deep their cuts lie one inside the other. Document 02, slip 3. Over the definitions
+-- that the calls' contracts cite.
+use mathlib.Core.Path.{_≡_}
+use mathlib.Core.Bool.{true}
+use mathlib.Core.List.{List}
+use Prim.Native.Nat.{ℕ, _+_, _-_, _%_}
+use lib.IntN.{pos}
+use Rattle.words.specs.Bytes.{valueOf}
+use Rattle.series.specs.Series.{Formula, rowAt, termCount, modulus}
+use Rattle.series.specs.Halves.{byHalves}
+use Rattle.run.specs.Run.{limitsOf, inRange, isTicket, bound}
+use Rattle.ticket.specs.Parts.{cut, partSum}
+use Rattle.ticket.specs.Work.{workAnswer, workBytes}
+use Rattle.ticket.specs.declared.Part.the-variants.{Whole, Lower, Upper}
+
+-- For every ticket, the sums of the two halves added modulo 2 ^ 128 are the ticket's: the sums themselves, and the numbers in the bytes that
+-- the three calls leave where they answer 0.
+pub record HalvesMakeWhole (F : Formula) : Type 0 where
+  pub sums : (p C row block : ℕ) → inRange (limitsOf F) p C ≡ true → isTicket (limitsOf F) C row block ≡ true
+      → (partSum F Lower p C row block + partSum F Upper p C row block) % modulus ≡ partSum F Whole p C row block
+  pub bytes : (p C row block : ℕ) (lower upper whole : List ℕ) → workAnswer F p C row block lower ≡ pos 0
+      → workAnswer F p C row block upper ≡ pos 0 → workAnswer F p C row block whole ≡ pos 0
+      → (valueOf (workBytes F Lower p C row block lower) + valueOf (workBytes F Upper p C row block upper)) % modulus
+      ≡ valueOf (workBytes F Whole p C row block whole)
+
+-- Each half of every ticket is worked with no more than `depth` cuts one inside the other.
+pub record HalvedWithin (F : Formula) (depth : ℕ) : Type 0 where
+  pub lower : (p C row block : ℕ) → inRange (limitsOf F) p C ≡ true → isTicket (limitsOf F) C row block ≡ true
+      → let first = bound (termCount F p) C block in
+      byHalves F p (rowAt F row) depth first (cut F p C block - first) ≡ partSum F Lower p C row block
+  pub upper : (p C row block : ℕ) → inRange (limitsOf F) p C ≡ true → isTicket (limitsOf F) C row block ≡ true
+      → let end = bound (termCount F p) C (block + 1) in
+      byHalves F p (rowAt F row) depth (cut F p C block) (end - cut F p C block) ≡ partSum F Upper p C row block
