@@ -1,5 +1,5 @@
 -- The engine is none of the wrong engines. Closings part from it at p = 1, which settles thirty digits, or at p = 5, which settles
--- twenty-nine; tickets and posts at p = 1 with one block, in rows 0 and 1.
+-- twenty-nine; tickets, halves and posts at p = 1 with one block, in rows 0 and 1.
 -- Assumes nothing.
 use mathlib.Core.Path.{_≡_, refl, sym, ap, ap₂, _∙_}
 use mathlib.Core.Bool.{Bool, true, false, not, cond}
@@ -25,7 +25,9 @@ use Rattle.interval.proofs.Bellard.{positive, bellard-rest}
 use Rattle.run.specs.Refusal.{_⇐_, refusal, answer}
 use Rattle.run.proofs.Answering as answering
 use Rattle.run.specs.Run.{inRange, isTicket, bound, ticketSum}
+use Rattle.ticket.specs.Parts.{cut, partSum}
 use Rattle.ticket.specs.Work.{workRefusal, workBytes}
+use Rattle.ticket.specs.declared.Part.the-variants.{Whole, Lower, Upper}
 use Rattle.ledger.specs.Ledger.{View, fresh, enter, mark, addTo, rowSumIn, totalOf, viewOf, posIn, blocksIn, totalIn, bitIn, markIn, inOrder}
 use Rattle.ledger.specs.Plain.{Plain, opened, encode}
 use Rattle.ledger.proofs.Image.{Good, pos-encode, sum-encode}
@@ -39,7 +41,7 @@ use Rattle.settlement.proofs.Theorem.{demand3}
 use Rattle.settlement.proofs.Filling.{kept-posts, kept-opened}
 use Rattle.settlement.proofs.Filler.{filled-exists}
 use Rattle.settlement.proofs.FirstDigits.{closes-with, first-digits}
-use Rattle.wrong_engines.specs.WrongEngines.{lim, AnswersAs, LeavesAs, sameDigits, WorksAs, oneSum, PostsAs, doesNothing, leftBy, fillEntry, fillsFirst, alwaysNine, nineUnseen, alwaysEight, madeUp, oneLess, byTotal, withoutRow, withoutCarry, wrongSize, wordBound, towardZero, settledTowardZero, Met, ShutOut}
+use Rattle.wrong_engines.specs.WrongEngines.{lim, AnswersAs, LeavesAs, sameDigits, WorksAs, oneSum, cutInBoth, cutInNeither, ownSigns, PostsAs, doesNothing, leftBy, fillEntry, fillsFirst, alwaysNine, nineUnseen, alwaysEight, madeUp, oneLess, byTotal, withoutRow, withoutCarry, wrongSize, wordBound, towardZero, settledTowardZero, Met, ShutOut}
 
 -- 6A8885A308D313198A2E03707344A, the digits from position 5 on that a run settles
 abbrev fifthDigits : List ℕ
@@ -237,12 +239,38 @@ row-left-out row h same =
 
 -- ---- tickets: row 0 and row 1 at p = 1 have sums with other top bytes
 
-one-sum : (w : List ℕ) → WorksAs (oneSum w) → ⊥
-unfolding workBytes workRefusal refusal inRange isTicket ticketSum rangeSum bound size termCount rowSum sum onSide isAdded residue bytesOf
+one-sum : (w : List ℕ) → WorksAs Whole (oneSum w) → ⊥
+unfolding workBytes workRefusal refusal inRange isTicket partSum ticketSum rangeSum bound size termCount rowSum sum onSide isAdded residue bytesOf
 one-sum w same =
     let a = same 1 1 0 0 (replicate 16 0) refl refl refl in
     let b = same 1 1 1 0 (replicate 16 0) refl refl refl in
     let z = ap (λ (l : List ℕ). getD l 15 0) (a ∙ sym b) in
+    omega (arith, z)
+
+-- ---- halves: those of row 0 at p = 1, C = 1, whose fourteen terms are cut at term 7; the byte that differs is named
+
+cut-in-both : WorksAs Lower cutInBoth → ⊥
+unfolding cutInBoth workBytes workRefusal refusal inRange isTicket partSum cut rangeSum bound size termCount rowSum sum onSide isAdded residue bytesOf
+cut-in-both same =
+    let z : _≡_ {A = ℕ} 231 249 = ap (λ (l : List ℕ). getD l 6 0) (same 1 1 0 0 (replicate 16 0) refl refl refl) in
+    omega (arith, z)
+
+cut-in-neither : WorksAs Upper cutInNeither → ⊥
+unfolding cutInNeither workBytes workRefusal refusal inRange isTicket partSum cut rangeSum bound size termCount rowSum sum onSide isAdded residue bytesOf
+cut-in-neither same =
+    let z : _≡_ {A = ℕ} 0 255 = ap (λ (l : List ℕ). getD l 15 0) (same 1 1 0 0 (replicate 16 0) refl refl refl) in
+    omega (arith, z)
+
+one-half-twice : WorksAs Upper (workBytes bellard Lower) → ⊥
+unfolding workBytes workRefusal refusal inRange isTicket partSum cut rangeSum bound size termCount rowSum sum onSide isAdded residue bytesOf
+one-half-twice same =
+    let z : _≡_ {A = ℕ} 0 128 = ap (λ (l : List ℕ). getD l 15 0) (same 1 1 0 0 (replicate 16 0) refl refl refl) in
+    omega (arith, z)
+
+own-signs : WorksAs Upper ownSigns → ⊥
+unfolding ownSigns workBytes workRefusal refusal inRange isTicket partSum cut rangeSum bound size termCount rowSum sum onSide isAdded residue bytesOf
+own-signs same =
+    let z : _≡_ {A = ℕ} 0 255 = ap (λ (l : List ℕ). getD l 15 0) (same 1 1 0 0 (replicate 16 0) refl refl refl) in
     omega (arith, z)
 
 -- ---- posts: the ticket of row 0 at p = 1, C = 1, with its right sum
@@ -278,6 +306,10 @@ shut-out = record {
   row-left-out = row-left-out;
   no-carry = no-carry;
   one-sum = one-sum;
+  cut-in-both = cut-in-both;
+  cut-in-neither = cut-in-neither;
+  one-half-twice = one-half-twice;
+  own-signs = own-signs;
   does-nothing = does-nothing;
   fills-first = fills-first;
   product-in-a-word = (refl, λ e. omega (arith, e));
@@ -293,6 +325,6 @@ pub met : Met
 met = record {
   answers = λ p C range posts f out room. refl;
   leaves = λ p C range posts f out room. refl;
-  works = λ p C row block out l r t. refl;
+  works = λ part p C row block out l r t. refl;
   posts = λ p C range posts. posts-left (fresh lim p C) posts;
 }

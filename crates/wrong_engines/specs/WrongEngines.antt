@@ -1,5 +1,5 @@
 -- The wrong engines that document 01 names under "Traps of this arithmetic" and "For those who test", where no edit of the code can be
--- them, and wrong totals of the row sums: each is written down by what it answers or leaves, and `ShutOut` says that the engine is none of
+-- them, wrong totals of the row sums, and wrong halves of a ticket: each is written down by what it answers or leaves, and `ShutOut` says that the engine is none of
 -- them. Nothing of the engine rests on these definitions.
 use mathlib.Core.Path.{_≡_}
 use mathlib.Core.Bool.{Bool, true, not, cond, _||_}
@@ -10,13 +10,17 @@ use lib.IntN.{ℤ, pos, negsuc, negℤ, subℕ}
 use lib.ListN.{length, drop}
 use Rattle.algebra.specs.Sum.{sum}
 use Rattle.algebra.specs.Test.{allBelow}
-use Rattle.algebra.specs.Whole.{sameℤ}
-use Rattle.series.specs.Series.{rowCount, termCount}
+use Rattle.algebra.specs.Whole.{residue, sameℤ}
+use Rattle.words.specs.Bytes.{bytesOf}
+use Rattle.series.specs.Series.{plus, minus, modulus, rowCount, rowAt, termCount, size, rowSum, rangeSum}
 use Rattle.series.specs.Bellard.{bellard}
 use Rattle.interval.specs.Interval.{unitAt}
 use Rattle.run.specs.Refusal.{_⇐_, refusal, answer}
 use Rattle.run.specs.Run.{Limits, limitsOf, inRange, isTicket, bound}
+use Rattle.ticket.specs.Parts.{cut}
 use Rattle.ticket.specs.Work.{workBytes}
+use Rattle.ticket.specs.declared.Part.{Part}
+use Rattle.ticket.specs.declared.Part.the-variants.{Whole, Lower, Upper}
 use Rattle.ledger.specs.Ledger.{ledgerSize, viewOf, posIn, blocksIn, rowSumIn, totalOf, totalIn, bitIn, inOrder, fresh, enter}
 use Rattle.ledger.specs.Plain.{Entry}
 use Rattle.sheet.specs.Posts.{Post, postRefusal, postEntries, postBytes, postsBytes}
@@ -83,15 +87,35 @@ withoutCarry sums = sum (λ r. sums r / 2 ^ 64) 0 7 % 2 ^ 64 * 2 ^ 64 + sum (λ 
 
 -- ---- tickets
 
--- the engine's working of every ticket leaves the bytes that W leaves
-abbrev pub WorksAs : (ℕ → ℕ → ℕ → ℕ → List ℕ → List ℕ) → Type 0
-WorksAs W =
+-- the engine's working of this part of every ticket leaves the bytes that W leaves
+abbrev pub WorksAs : Part → (ℕ → ℕ → ℕ → ℕ → List ℕ → List ℕ) → Type 0
+WorksAs part W =
     (p C row block : ℕ) (out : List ℕ) → length out ≡ 16 → inRange lim p C ≡ true → isTicket lim C row block ≡ true
-    → workBytes bellard p C row block out ≡ W p C row block out
+    → workBytes bellard part p C row block out ≡ W p C row block out
 
 -- one sum for all tickets
 abbrev pub oneSum : List ℕ → ℕ → ℕ → ℕ → ℕ → List ℕ → List ℕ
 oneSum w p C row block out = w
+
+-- halves, by their sums (document 02, slip 3): the term at the cut is given to the lower half, too
+unfoldable pub cutInBoth : ℕ → ℕ → ℕ → ℕ → List ℕ → List ℕ
+cutInBoth p C row block out =
+    let first = bound (termCount bellard p) C block in
+    bytesOf 16 (rangeSum bellard p (rowAt bellard row) first (cut bellard p C block + 1 - first))
+
+-- it is left out of the upper half
+unfoldable pub cutInNeither : ℕ → ℕ → ℕ → ℕ → List ℕ → List ℕ
+cutInNeither p C row block out =
+    let end = bound (termCount bellard p) C (block + 1) in
+    bytesOf 16 (rangeSum bellard p (rowAt bellard row) (cut bellard p C block + 1) (end - (cut bellard p C block + 1)))
+
+-- the upper half's signs are counted from its own first term, as if that were term 0
+unfoldable pub ownSigns : ℕ → ℕ → ℕ → ℕ → List ℕ → List ℕ
+ownSigns p C row block out =
+    let r = rowAt bellard row in
+    let sizes : ℕ → ℕ = λ j. size bellard p r (cut bellard p C block + j) in
+    let count = bound (termCount bellard p) C (block + 1) - cut bellard p C block in
+    bytesOf 16 (residue modulus (subℕ (rowSum bellard plus r sizes 0 count) (rowSum bellard minus r sizes 0 count)))
 
 -- ---- posts, by what they leave of a ledger
 
@@ -137,7 +161,7 @@ settledTowardZero lo hi (suc d) =
 pub record Met : Type 0 where
   pub answers : AnswersAs (closeAnswer bellard)
   pub leaves : LeavesAs (closeBytes bellard)
-  pub works : WorksAs (workBytes bellard)
+  pub works : (part : Part) → WorksAs part (workBytes bellard part)
   pub posts : PostsAs (postBytes lim)
 
 -- ---- the engine is none of the wrong ones
@@ -151,7 +175,11 @@ pub record ShutOut : Type 0 where
   pub one-set-of-digits : (w : List ℕ) → LeavesAs (sameDigits w) → ⊥
   pub row-left-out : (row : ℕ) → row < 7 → LeavesAs (byTotal (withoutRow row)) → ⊥
   pub no-carry : LeavesAs (byTotal withoutCarry) → ⊥
-  pub one-sum : (w : List ℕ) → WorksAs (oneSum w) → ⊥
+  pub one-sum : (w : List ℕ) → WorksAs Whole (oneSum w) → ⊥
+  pub cut-in-both : WorksAs Lower cutInBoth → ⊥
+  pub cut-in-neither : WorksAs Upper cutInNeither → ⊥
+  pub one-half-twice : WorksAs Upper (workBytes bellard Lower) → ⊥
+  pub own-signs : WorksAs Upper ownSigns → ⊥
   pub does-nothing : PostsAs doesNothing → ⊥
   pub fills-first : PostsAs fillsFirst → ⊥
   -- at p = 2 ^ 60, C = 256, block 39 would be empty; it is not
