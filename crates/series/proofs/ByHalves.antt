@@ -28,17 +28,6 @@ module _ (F : Formula) (p : ℕ) (r : Row) where
       go true = mod-lt _ (lit< tt)
       go false = lit< tt
 
-  pub as-it-is : (k q : ℕ) → isAdded F r k ≡ true → q ≡ size F p r k → q ≡ signedSize F p r k
-  unfolding signedSize
-  as-it-is k q a e = e ∙ rw a refl
-
-  -- taken from 0
-  pub negated : (k q t : ℕ) → isAdded F r k ≡ false → q ≡ size F p r k → t < modulus → (t + q) % modulus ≡ 0 → t ≡ signedSize F p r k
-  unfolding signedSize
-  negated k q t a e h z =
-      residue-of modulus 0 q t h (of-% modulus (q + t) 0 (ap (λ (n : ℕ). n % modulus) (add-comm q t) ∙ z))
-      ∙ ap (λ (n : ℕ). residue modulus (subℕ 0 n)) e ∙ rw a refl
-
   -- it is the sum of a range
   one : (k : ℕ) → signedSize F p r k ≡ rangeSum F p r k 1
   unfolding signedSize rangeSum rowSum sum onSide
@@ -51,8 +40,21 @@ module _ (F : Formula) (p : ℕ) (r : Row) where
       go true = residue-of modulus (0 + q) 0 q (size-lt (k + 0)) (of-eq refl)
       go false = ap (λ (n : ℕ). residue modulus (subℕ 0 n)) (sym (zero-add q))
 
-  pub single : (first count : ℕ) → count ≡ 1 → signedSize F p r first ≡ rangeSum F p r first count
-  single first count e = one first ∙ ap (rangeSum F p r first) (sym e)
+  -- from its size: as it is, or taken from 0
+  module _ (k count q : ℕ) (e : count ≡ 1) where
+    pub as-it-is : isAdded F r k ≡ true → q ≡ size F p r k → q ≡ rangeSum F p r k count
+    unfolding signedSize
+    as-it-is a q-is =
+        let t : q ≡ signedSize F p r k = q-is ∙ rw a refl in
+        t ∙ one k ∙ ap (rangeSum F p r k) (sym e)
+
+    pub negated : (t : ℕ) → isAdded F r k ≡ false → q ≡ size F p r k → t < modulus → (t + q) % modulus ≡ 0 → t ≡ rangeSum F p r k count
+    unfolding signedSize
+    negated t a q-is h z =
+        let u : t ≡ signedSize F p r k =
+        residue-of modulus 0 q t h (of-% modulus (q + t) 0 (ap (λ (n : ℕ). n % modulus) (add-comm q t) ∙ z))
+        ∙ ap (λ (n : ℕ). residue modulus (subℕ 0 n)) q-is ∙ rw a refl in
+        u ∙ one k ∙ ap (rangeSum F p r k) (sym e)
 
   -- ---- first to last
 

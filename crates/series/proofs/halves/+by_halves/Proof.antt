@@ -1,8 +1,8 @@
 -- `series::halves::by_halves` meets its contract, and ends: the measure is the number of terms, and both halves of two or more have fewer.
 -- Assumes nothing.
-use mathlib.Core.Path.{_≡_, ap, ap₂, _∙_}
+use mathlib.Core.Path.{ap, ap₂, _∙_}
 use mathlib.Core.Logic.{⊎-elim}
-use Prim.Native.Nat.{ℕ, _+_, _-_, _/_, _%_, _≤_, _<_}
+use Prim.Native.Nat.{ℕ, _+_, _%_, _<_}
 use native.Mathlib.Omega.{arith}
 use borrow.Author.Needs.{needs}
 use borrow.Fn.Kinds.{In}
@@ -12,17 +12,13 @@ use Rattle.words.specs.declared.Wide.{Wide}
 use Rattle.words.proofs.add.Reads as add-reads
 use Rattle.series.specs.Series.{modulus}
 use Rattle.series.proofs.Numbers.{count-small}
-use Rattle.series.proofs.ByHalves.{single, halved}
-use Rattle.series.proofs.halves.signed_size.Reads as signed-size-reads
+use Rattle.series.proofs.ByHalves.{halved}
+use Rattle.series.proofs.halves.one_or_none.Reads as one-or-none-reads
 use Rattle.series.proofs.halves.by_halves.Reads as by-halves
 use Rattle.series.proofs.halves.by_halves.Kinds as by-halves-kinds
 use Rattle.series.proofs.halves.+by_halves.Lts-by_halves as lts
 use Rattle.series.proofs.halves.+by_halves.{statement}
 use Rattle.series.proofs.halves.+by_halves.Tie.{close}
-
--- a half of two terms or more that is not of one has two or more again
-two : (count : ℕ) → 2 ≤ count → ((count / 2 ≡ 1 → ⊥) → 2 ≤ count / 2) × ((count - count / 2 ≡ 1 → ⊥) → 2 ≤ count - count / 2)
-two count h = (λ f. omega arith, λ f. omega arith)
 
 abbrev value : Wide → ℕ
 value x = joined (x .hi) (x .lo)
@@ -38,7 +34,7 @@ abbrev asked : ℕ → In 0 by-halves-kinds.ps
 asked t = and 0 by-halves-kinds.ps (falls 0 by-halves-kinds.ps _<_ measure t) by-halves.Pre
 
 abbrev calls : ℕ → lts.Claims
-calls t = (signed-size-reads.Asked, signed-size-reads.Learnt, asked t, by-halves.Post, add-reads.Asked, add-reads.Learnt)
+calls t = (one-or-none-reads.Asked, one-or-none-reads.Learnt, asked t, by-halves.Post, add-reads.Asked, add-reads.Learnt)
 
 module _ (t : ℕ) where
   sub-rest : lts.Need-sub-rest (calls t) (given t) by-halves.Post
@@ -47,27 +43,21 @@ module _ (t : ℕ) where
   add-cut : lts.Need-add-cut (calls t) (given t) by-halves.Post
   add-cut c = record { fits = omega (arith, c .pre .1 .2, count-small (c .args .f) _ (c .pre .1 .0)) }
 
-  signed-size-requires : lts.Need-signed-size-requires (calls t) (given t) by-halves.Post
-  signed-size-requires c κs =
-      let s = c .before in
-      (s .pre .1 .0, s .pre .1 .1, omega (arith, s .pre .1 .2, s .pre .1 .3))
+  one-or-none-requires : lts.Need-one-or-none-requires (calls t) (given t) by-halves.Post
+  one-or-none-requires c κs = let s = c .before in (s .pre .1 .0, s .pre .1 .1, omega (arith, s .pre .1 .2), c .if1 .taken)
 
   by-halves-requires : lts.Need-by-halves-requires (calls t) (given t) by-halves.Post
   by-halves-requires c κs =
       let s = c .before in
-      let more = two _ (s .pre .1 .3) .0 (c .if1 .left) in
-      (omega (arith, s .pre .0, s .pre .1 .3), (s .pre .1 .0, s .pre .1 .1, omega (arith, s .pre .1 .2), more))
+      (omega (arith, s .pre .0, c .if1 .left), (s .pre .1 .0, s .pre .1 .1, omega (arith, s .pre .1 .2)))
 
-  signed-size-requires-2 : lts.Need-signed-size-requires-2 (calls t) (given t) by-halves.Post
-  signed-size-requires-2 c κs =
-      let s = c .before .before in
-      (s .pre .1 .0, s .pre .1 .1, omega (arith, s .pre .1 .2, s .pre .1 .3))
+  one-or-none-requires-2 : lts.Need-one-or-none-requires-2 (calls t) (given t) by-halves.Post
+  one-or-none-requires-2 c κs = let s = c .before .before in (s .pre .1 .0, s .pre .1 .1, omega (arith, s .pre .1 .2), c .if2 .taken)
 
   by-halves-requires-2 : lts.Need-by-halves-requires-2 (calls t) (given t) by-halves.Post
   by-halves-requires-2 c κs =
       let s = c .before .before in
-      let more = two _ (s .pre .1 .3) .1 (c .if2 .left) in
-      (omega (arith, s .pre .0, s .pre .1 .3), (s .pre .1 .0, s .pre .1 .1, omega (arith, s .pre .1 .2), more))
+      (omega (arith, s .pre .0, c .if2 .left), (s .pre .1 .0, s .pre .1 .1, omega (arith, s .pre .1 .2)))
 
   add-requires : lts.Need-add-requires (calls t) (given t) by-halves.Post
   add-requires c κs = search needs
@@ -76,8 +66,8 @@ module _ (t : ℕ) where
   returns c =
       c .add .ensures
       ∙ ap₂ (λ (x y : ℕ). (x + y) % modulus)
-      (⊎-elim (λ w. ap value (w .2) ∙ w .1 .ensures ∙ single _ _ _ _ _ (w .0 .taken)) (λ w. ap value (w .2) ∙ w .1 .ensures) (c .before .before .if1 .came))
-      (⊎-elim (λ w. ap value (w .2) ∙ w .1 .ensures ∙ single _ _ _ _ _ (w .0 .taken)) (λ w. ap value (w .2) ∙ w .1 .ensures) (c .before .if2 .came))
+      (⊎-elim (λ w. ap value (w .2) ∙ w .1 .ensures) (λ w. ap value (w .2) ∙ w .1 .ensures) (c .before .before .if1 .came))
+      (⊎-elim (λ w. ap value (w .2) ∙ w .1 .ensures) (λ w. ap value (w .2) ∙ w .1 .ensures) (c .before .if2 .came))
       ∙ halved _ _ _ _ _
 
 pub +by-halves-spec : {M : Type 1} → statement M
@@ -86,9 +76,9 @@ pub +by-halves-spec : {M : Type 1} → statement M
     λ t. lts.spec (calls t) (given t) by-halves.Post
     (sub-rest t)
     (add-cut t)
-    (signed-size-requires t)
+    (one-or-none-requires t)
     (by-halves-requires t)
-    (signed-size-requires-2 t)
+    (one-or-none-requires-2 t)
     (by-halves-requires-2 t)
     (add-requires t)
     (returns t)
