@@ -29,7 +29,7 @@ use Rattle.ticket.specs.Parts.{cut, partSum}
 use Rattle.ticket.specs.Work.{workRefusal, workAnswer, workBytes}
 use Rattle.ticket.specs.declared.Part.{Part}
 use Rattle.ticket.specs.declared.Part.the-variants.{Whole, Lower, Upper}
-use Rattle.settlement.specs.Halves.{HalvesMakeWhole, HalvedWithin}
+use Rattle.settlement.specs.Halves.{HalvesMakeWhole, HalvedWithin, BellardDepth}
 
 module _ (F : Formula) (p C row block : ℕ) where
   abbrev first : ℕ
@@ -107,11 +107,6 @@ halved-within F depth s h = record {
     by-halves : (F : Formula) (p : ℕ) (r : Row) (first count depth : ℕ) → count ≤ 2 ^ depth → byHalves F p r depth first count ≡ rangeSum F p r first count
     by-halves F p r first count depth h = same-sum .by-halves F p r first count depth h ∙ same-sum .in-order F p r first count
 
-pub bellard-depth : HalvedWithin bellard 58
-unfolding termCount
-bellard-depth = halved-within bellard 58 (omega arith) (omega arith)
-
--- at the last position with one block both halves have more terms than 57 cuts one inside the other leave one of each
-pub no-fewer : 2 ^ 57 < cut bellard (2 ^ 60) 1 0
+pub bellard-depth : BellardDepth
 unfolding cut bound termCount
-no-fewer = lit< tt
+bellard-depth = (halved-within bellard 58 (omega arith) (omega arith), lit< tt)

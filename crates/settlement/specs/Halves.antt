@@ -3,10 +3,11 @@
 use mathlib.Core.Path.{_≡_}
 use mathlib.Core.Bool.{true}
 use mathlib.Core.List.{List}
-use Prim.Native.Nat.{ℕ, _+_, _-_, _%_}
+use Prim.Native.Nat.{ℕ, _+_, _-_, _%_, _^_, _<_}
 use lib.IntN.{pos}
 use Rattle.words.specs.Bytes.{valueOf}
 use Rattle.series.specs.Series.{Formula, rowAt, termCount, modulus}
+use Rattle.series.specs.Bellard.{bellard}
 use Rattle.series.specs.Halves.{byHalves}
 use Rattle.run.specs.Run.{limitsOf, inRange, isTicket, bound}
 use Rattle.ticket.specs.Parts.{cut, partSum}
@@ -31,3 +32,7 @@ pub record HalvedWithin (F : Formula) (depth : ℕ) : Type 0 where
   pub upper : (p C row block : ℕ) → inRange (limitsOf F) p C ≡ true → isTicket (limitsOf F) C row block ≡ true
       → let end = bound (termCount F p) C (block + 1) in
       byHalves F p (rowAt F row) depth (cut F p C block) (end - cut F p C block) ≡ partSum F Upper p C row block
+
+-- For Bellard's formula 58 are enough; at the last position with one block 57 are not, since a half has more than 2 ^ 57 terms.
+abbrev pub BellardDepth : Type 0
+BellardDepth = HalvedWithin bellard 58 × (2 ^ 57 < cut bellard (2 ^ 60) 1 0)

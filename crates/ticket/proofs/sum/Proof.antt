@@ -34,9 +34,9 @@ module _ (f : Series) (p C row block K first end : ℕ) (k : K ≡ termCount (fo
     cut-fits = omega (arith, rising, within, count-small f p (position (formulaOf f) p C r))
 
     -- a range of the block's terms
-    ranged : (from to : ℕ) → from ≤ to → to ≤ end
+    ranged : (from to : ℕ) → (first ≤ end → (from ≤ to) × (to ≤ end))
         → Position (formulaOf f) p × (row < rowCount (formulaOf f)) × (from ≤ to) × (to ≤ termCount (formulaOf f) p)
-    ranged from to l h = (position (formulaOf f) p C r, ticket-row _ C row block t, l, le-trans h within)
+    ranged from to h = let l = h rising in (position (formulaOf f) p C r, ticket-row _ C row block t, l .0, le-trans (l .1) within)
 
   module _ (part : Part) (s : ℕ) where
     whole : part ≡ Whole → s ≡ rangeSum (formulaOf f) p (rowAt (formulaOf f) row) first (end - first) → s ≡ partSum (formulaOf f) part p C row block
@@ -83,9 +83,8 @@ range-sum-requires : tie.Need-range-sum-requires
 range-sum-requires c κs =
     let ends = c .before .before in
     let s = ends .before .before .before in
-    let rises = rising (s .args .f) _ _ _ _ _ _ _ (ends .before .before .term-count .ensures) (ends .before .bound .ensures) (ends .bound2 .ensures) (s .pre .0) (s .pre .1) in
     ranged (s .args .f) _ _ _ _ _ _ _ (ends .before .before .term-count .ensures) (ends .before .bound .ensures) (ends .bound2 .ensures) (s .pre .0) (s .pre .1)
-    _ _ rises (le-refl _)
+    _ _ (λ l. (l, le-refl _))
 
 enum-told-2 : tie.Need-enum-told-2
 enum-told-2 c = search needs
@@ -94,9 +93,8 @@ range-sum-requires-2 : tie.Need-range-sum-requires-2
 range-sum-requires-2 c κs =
     let ends = c .before .before in
     let s = ends .before .before .before in
-    let rises = rising (s .args .f) _ _ _ _ _ _ _ (ends .before .before .term-count .ensures) (ends .before .bound .ensures) (ends .bound2 .ensures) (s .pre .0) (s .pre .1) in
     ranged (s .args .f) _ _ _ _ _ _ _ (ends .before .before .term-count .ensures) (ends .before .bound .ensures) (ends .bound2 .ensures) (s .pre .0) (s .pre .1)
-    _ _ (omega arith) (omega arith)
+    _ _ (λ l. (omega arith, omega arith))
 
 enum-told-3 : tie.Need-enum-told-3
 enum-told-3 c = search needs
@@ -105,9 +103,8 @@ range-sum-requires-3 : tie.Need-range-sum-requires-3
 range-sum-requires-3 c κs =
     let ends = c .before .before in
     let s = ends .before .before .before in
-    let rises = rising (s .args .f) _ _ _ _ _ _ _ (ends .before .before .term-count .ensures) (ends .before .bound .ensures) (ends .bound2 .ensures) (s .pre .0) (s .pre .1) in
     ranged (s .args .f) _ _ _ _ _ _ _ (ends .before .before .term-count .ensures) (ends .before .bound .ensures) (ends .bound2 .ensures) (s .pre .0) (s .pre .1)
-    _ _ (omega arith) (le-refl _)
+    _ _ (λ l. (omega arith, omega arith))
 
 returns : tie.Need-returns
 returns c =
