@@ -109,4 +109,4 @@ halved-within F depth s h = record {
 
 pub bellard-depth : BellardDepth
 unfolding cut bound termCount
-bellard-depth = (halved-within bellard 58 (omega arith) (omega arith), lit< tt)
+bellard-depth = (halved-within bellard _ (omega arith) (omega arith), lit< tt)
