@@ -26,7 +26,7 @@ LONG = 1000000000 10000000000 100000000000
 PROCESSES =
 
 # The calls of the engine; test_CALL tests one.
-CALLS = work open post sheet_write sheet_read sheet_post close
+CALLS = work work_lower work_upper open post sheet_write sheet_read sheet_post close
 
 # Not for a command line to change: install goes by it.
 override PROVED = target/staticlib/libengine.a
@@ -40,13 +40,13 @@ WARN = -std=c99 -Wall -Wextra -Wpedantic -Werror
 INCLUDE = -Iinclude -Itests -Iexamples
 CFLAGS = -O2
 LDFLAGS =
-TEST_FLAGS = $(WARN) -D_GNU_SOURCE $(INCLUDE) -O1 -g -fsanitize=address,undefined -fno-sanitize-recover=all
-PLAIN_FLAGS = $(WARN) -D_GNU_SOURCE $(INCLUDE) -O1
+TEST_FLAGS = $(WARN) -pthread -D_GNU_SOURCE $(INCLUDE) -O1 -g -fsanitize=address,undefined -fno-sanitize-recover=all
+PLAIN_FLAGS = $(WARN) -pthread -D_GNU_SOURCE $(INCLUDE) -O1
 PROGRAM_FLAGS = $(WARN) $(INCLUDE) $(CFLAGS)
 
-TESTS = $(CALLS) refusals tickets list
+TESTS = $(CALLS) refusals tickets halves list
 
-SUPPORT = common sheets vectors reference reference_close
+SUPPORT = common sheets vectors working reference reference_close
 HEADERS = $(wildcard include/*.h tests/*.h examples/*.h bench/*.h)
 
 # The stand-in keeps the number of the way in which it is wrong, and has no closing program.
