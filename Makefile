@@ -1,4 +1,5 @@
-# make digits P=1000000   the digits of pi from position P on; KEEP=FILE keeps the ledger, written before it is closed
+# make digits P=1000000   the digits of pi from position P on; KEEP=FILE keeps the ledger, written before it is closed;
+#                         HALVES=1 works each ticket by two processes, a half by each
 # make rows LEDGER=FILE   each row's sum in a kept ledger beside that of its tickets worked anew; ROWS="0 3" for some
 # make test               the gate: proofs and tests, as .ci/run has them
 # make check              the tests in C alone; SEED= and COUNT= for other random cases
@@ -18,6 +19,7 @@ CXX = g++
 PREFIX = /usr/local
 P = 1000000
 KEEP =
+HALVES =
 LEDGER =
 ROWS =
 SEED = 1
@@ -65,7 +67,7 @@ BUILT = build/test_reference $(TESTS:%=build/mutants/test_%) $(TESTS:%=$(OUT)/te
 .PHONY: digits rows test check bench published published-long install uninstall standin vectors clean help
 
 digits: $(OUT)/acceptance
-	@$(OUT)/acceptance $(if $(KEEP),--keep $(KEEP)) $(P)
+	@$(OUT)/acceptance $(if $(HALVES),--halves) $(if $(KEEP),--keep $(KEEP)) $(P)
 
 rows: $(OUT)/acceptance
 	@$(OUT)/acceptance --rows $(LEDGER) $(ROWS)
