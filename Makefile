@@ -173,6 +173,6 @@ $(OUT)/published: tests/published.c $(HEADERS) $(ENGINE)
 
 $(OUT)/bench: bench/bench.c bench/plain.c $(HEADERS) $(ENGINE)
 	@mkdir -p $(@D)
-	$(CC) $(WARN) $(INCLUDE) -O3 bench/bench.c bench/plain.c $(ENGINE) $(LDFLAGS) -o $@
+	$(CC) $(WARN) -pthread $(INCLUDE) -O3 bench/bench.c bench/plain.c $(ENGINE) $(LDFLAGS) -o $@
 
 .PRECIOUS: build/sanitized/%.o build/plain/%.o

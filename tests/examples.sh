@@ -32,7 +32,7 @@ for word in '' 1000x x ' 1000' +1000 -1000 1e3 0x3e8 18446744073709551616 184467
     ends 2 "$acceptance" --halves 1000 "$word"
 done
 for words in '' '1 2 3' --rows --keep "--keep $ledger" "--keep $ledger 1 2 3" '--row 1' '--help' --halves '--halves 1 2 3' \
-    '--halves --halves 1' '1 --halves' '--half 1' '--halves --keep' "--halves --keep $ledger" "--keep $ledger --halves" \
+    '--halves --halves 1' '--half 1' '--halves --keep' "--halves --keep $ledger" "--keep $ledger --halves" \
     "--keep $ledger --keep $ledger 1" "--halves --rows $ledger"; do
     ends 2 "$acceptance" $words
     same "what acceptance $words says" "${said%%:*}" usage
