@@ -187,8 +187,8 @@ static void measure_stack(void)
     pthread_t thread;
     size_t untouched = 0;
     memset(stack, UNTOUCHED, sizeof stack);
-    if (pthread_attr_init(&attributes) != 0 || pthread_attr_setstack(&attributes, stack, sizeof stack) != 0 ||
-        pthread_create(&thread, &attributes, work_largest_half, NULL) != 0 || nanosleep(&while_at_work, NULL) != 0)
+    if ((errno = pthread_attr_init(&attributes)) != 0 || (errno = pthread_attr_setstack(&attributes, stack, STACK)) != 0 ||
+        (errno = pthread_create(&thread, &attributes, work_largest_half, NULL)) != 0 || nanosleep(&while_at_work, NULL) != 0)
         fail("thread");
     while (untouched < STACK && ((const volatile uint8_t *)stack)[untouched] == UNTOUCHED)
         untouched++;

@@ -168,24 +168,24 @@ failing() {
 
 # The closing line and the ledger are those of whole tickets.
 halves() {
-    local run line failed="the process of an upper half failed" whole=$scratch/whole
+    local run line failed="the process of an upper half failed" kept=$scratch/kept
     for run in 1 '1 1' '1 14' '2 256' '1000 1' '1000 3' '1000 256' '12345 7'; do
-        line=$("$acceptance" --keep "$whole" $run)
+        line=$("$acceptance" --keep "$kept" $run)
         prints 0 "$line" "$acceptance" --halves $run
         same "what --halves says" "$said" ""
         prints 0 "$line" "$acceptance" --halves --keep "$ledger" $run
-        same "the ledger by halves" "$(cmp "$ledger" "$whole" 2>&1)" ""
+        same "the ledger by halves" "$(cmp "$ledger" "$kept" 2>&1)" ""
         rm "$ledger"
         prints 0 "$line" "$acceptance" --keep "$ledger" --halves $run
-        same "the ledger by halves, the options the other way round" "$(cmp "$ledger" "$whole" 2>&1)" ""
+        same "the ledger by halves, the options the other way round" "$(cmp "$ledger" "$kept" 2>&1)" ""
     done
     # No ticket is worked whole but the supplier's, and no child is left at the end.
     line="1000 29 349F1C09B075372C980991B7B25D4"
     wrapped halves examples/acceptance.c '#include <sys/wait.h>' '#define bbp_work(...) INT64_C(-7)' \
         '#define bbp_close(...) (waitpid(-1, NULL, WNOHANG) == -1 ? bbp_close(__VA_ARGS__) : INT64_C(-9))'
     prints 0 "$line" "$scratch/halves" --halves 1000 5
-    wrapped whole_tickets examples/acceptance.c '#define bbp_work_lower(...) INT64_C(-7)' '#define bbp_work_upper(...) INT64_C(-7)'
-    prints 0 "$line" "$scratch/whole_tickets" 1000 5
+    wrapped whole examples/acceptance.c '#define bbp_work_lower(...) INT64_C(-7)' '#define bbp_work_upper(...) INT64_C(-7)'
+    prints 0 "$line" "$scratch/whole" 1000 5
     # The child is killed, ends without a word, writes short, or fails after it wrote.
     failing "$failed" '#define bbp_work_upper(...) (raise(SIGKILL), INT64_C(0))'
     failing "$failed" '#define bbp_work_upper(...) (_exit(0), INT64_C(0))'

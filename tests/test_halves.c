@@ -16,13 +16,14 @@ static struct {
 
 static void count_kind(void)
 {
-    uint64_t first = ref_block_first(tried.p, tried.c, tried.block), end = ref_block_first(tried.p, tried.c, tried.block + 1);
-    seen.empty += first == end;
-    seen.one_term += end - first == 1;
-    seen.odd += end - first > 1 && (end - first) % 2 == 1;
-    seen.even += end - first > 1 && (end - first) % 2 == 0;
-    if (end - first > 1)
-        *(ref_block_cut(tried.p, tried.c, tried.block) % 2 == 1 ? &seen.odd_cut : &seen.even_cut) += 1;
+    uint64_t first = ref_block_first(tried.p, tried.c, tried.block), cut = ref_block_cut(tried.p, tried.c, tried.block);
+    uint64_t terms = ref_block_first(tried.p, tried.c, tried.block + 1) - first;
+    seen.empty += terms == 0;
+    seen.one_term += terms == 1;
+    seen.odd += terms > 1 && terms % 2 == 1;
+    seen.even += terms > 1 && terms % 2 == 0;
+    seen.odd_cut += terms > 1 && cut % 2 == 1;
+    seen.even_cut += terms > 1 && cut % 2 == 0;
 }
 
 static void require_kinds(void)
@@ -99,9 +100,9 @@ static void small_halves(void)
 }
 
 /*
- * A small stack. Cut by cut, a recursion by halves is at most 58 calls deep for
- * any ticket. One whose depth grows with the number of terms has no room here
- * for some thousand of them.
+ * A small stack. A recursion by halves makes at most 58 cuts one inside the
+ * other, at p = 2^60, C = 1. One whose depth grows with the number of terms has
+ * no room here for some thousand of them.
  */
 enum { STACK = 65536, FAR = 10000000 };
 
@@ -143,7 +144,7 @@ static void *work_largest_upper(void *unused)
     return unused;
 }
 
-/* Before it has worked one term, the recursion is within one call of its greatest depth: that much stack is used at once. */
+/* The call does not come back. Of its greatest depth it lacks one cut at most when it comes to its first term, at once. */
 static void largest_lower(void)
 {
     on_small_stack(work_largest_lower);

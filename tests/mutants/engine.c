@@ -253,19 +253,21 @@ static uint64_t cut_of(const range *terms, uint64_t c, uint64_t block)
         return (uint32_t)(terms->first + terms->end) / 2;
     if (WRONG(120))
         return (terms->end - terms->first) / 2;
+    if (WRONG(121))
+        return terms->end;
     return (terms->first + terms->end + WRONG(103)) / 2;
 }
 
 static range half_range(uint64_t p, uint64_t c, uint64_t row, uint64_t block, int upper)
 {
     range terms = ticket_range(p, c, row, block);
-    uint64_t cut = cut_of(&terms, c, block), shared = cut < terms.end;
+    uint64_t cut = cut_of(&terms, c, block), after = cut < terms.end ? cut + 1 : cut;
     if (WRONG(100) || WRONG(101))
         upper = WRONG(101);
     if (upper)
-        terms.first = cut + (WRONG(99) ? shared : 0);
+        terms.first = WRONG(99) ? after : cut;
     else
-        terms.end = cut + (WRONG(98) ? shared : 0);
+        terms.end = WRONG(98) ? after : cut;
     if (WRONG(102) && upper)
         terms.origin = cut;
     if (WRONG(112) && p > 1000000)
