@@ -62,11 +62,9 @@ mkdir "$directory/1000-5.ledger"
 ends 1 "$farm" 1000 5 "$directory"
 
 # Tickets that take minutes.
-long="$farm 100000000000 256 $directory 2"
-stopped TERM 143 2 $long
-stopped INT 130 2 $long
-stopped HUP 129 2 $long
-stopped KILL 137 2 $long
+for end in 'TERM 143' 'INT 130' 'HUP 129' 'KILL 137'; do
+    stopped $end 2 "$farm" 100000000000 256 "$directory" 2
+done
 
 ends 1 "$farm" 0 5 "$directory"
 same "what a refusal says" "$said" "open: refused 2: position or block count out of range"
