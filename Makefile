@@ -1,4 +1,5 @@
-# make digits P=1000000   the digits of pi from position P on; KEEP=FILE keeps the ledger, written before it is closed
+# make digits P=1000000   the digits of pi from position P on; KEEP=FILE keeps the ledger, written before it is closed;
+#                         HALVES=1 works each ticket by two processes, a half by each
 # make rows LEDGER=FILE   each row's sum in a kept ledger beside that of its tickets worked anew; ROWS="0 3" for some
 # make test               the gate: proofs and tests, as .ci/run has them
 # make check              the tests in C alone; SEED= and COUNT= for other random cases
@@ -18,6 +19,7 @@ CXX = g++
 PREFIX = /usr/local
 P = 1000000
 KEEP =
+HALVES =
 LEDGER =
 ROWS =
 SEED = 1
@@ -26,7 +28,7 @@ LONG = 1000000000 10000000000 100000000000
 PROCESSES =
 
 # The calls of the engine; test_CALL tests one.
-CALLS = work open post sheet_write sheet_read sheet_post close
+CALLS = work work_lower work_upper open post sheet_write sheet_read sheet_post close
 
 # Not for a command line to change: install goes by it.
 override PROVED = target/staticlib/libengine.a
@@ -40,13 +42,13 @@ WARN = -std=c99 -Wall -Wextra -Wpedantic -Werror
 INCLUDE = -Iinclude -Itests -Iexamples
 CFLAGS = -O2
 LDFLAGS =
-TEST_FLAGS = $(WARN) -D_GNU_SOURCE $(INCLUDE) -O1 -g -fsanitize=address,undefined -fno-sanitize-recover=all
-PLAIN_FLAGS = $(WARN) -D_GNU_SOURCE $(INCLUDE) -O1
+TEST_FLAGS = $(WARN) -pthread -D_GNU_SOURCE $(INCLUDE) -O1 -g -fsanitize=address,undefined -fno-sanitize-recover=all
+PLAIN_FLAGS = $(WARN) -pthread -D_GNU_SOURCE $(INCLUDE) -O1
 PROGRAM_FLAGS = $(WARN) $(INCLUDE) $(CFLAGS)
 
-TESTS = $(CALLS) refusals tickets list
+TESTS = $(CALLS) refusals tickets halves list
 
-SUPPORT = common sheets vectors reference reference_close
+SUPPORT = common sheets vectors working reference reference_close
 HEADERS = $(wildcard include/*.h tests/*.h examples/*.h bench/*.h)
 
 # The stand-in keeps the number of the way in which it is wrong, and has no closing program.
@@ -65,7 +67,7 @@ BUILT = build/test_reference $(TESTS:%=build/mutants/test_%) $(TESTS:%=$(OUT)/te
 .PHONY: digits rows test check bench published published-long install uninstall standin vectors clean help
 
 digits: $(OUT)/acceptance
-	@$(OUT)/acceptance $(if $(KEEP),--keep $(KEEP)) $(P)
+	@$(OUT)/acceptance $(if $(HALVES),--halves) $(if $(KEEP),--keep $(KEEP)) $(P)
 
 rows: $(OUT)/acceptance
 	@$(OUT)/acceptance --rows $(LEDGER) $(ROWS)
@@ -171,6 +173,6 @@ $(OUT)/published: tests/published.c $(HEADERS) $(ENGINE)
 
 $(OUT)/bench: bench/bench.c bench/plain.c $(HEADERS) $(ENGINE)
 	@mkdir -p $(@D)
-	$(CC) $(WARN) $(INCLUDE) -O3 bench/bench.c bench/plain.c $(ENGINE) $(LDFLAGS) -o $@
+	$(CC) $(WARN) -pthread $(INCLUDE) -O3 bench/bench.c bench/plain.c $(ENGINE) $(LDFLAGS) -o $@
 
 .PRECIOUS: build/sanitized/%.o build/plain/%.o

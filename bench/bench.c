@@ -1,22 +1,25 @@
 /*
  * Times of the engine, in processor time, as minima of several repetitions.
  * Working is compared with the plain C of bench/plain.c on the same tickets,
- * turn by turn. Figures say nothing about whether answers are right; the two
- * are compared all the same, so that equal work is timed.
+ * and with the engine's own halves of them, turn by turn. Figures say nothing
+ * about whether answers are right; the sums are compared all the same, so that
+ * equal work is timed. Last comes the stack that a half takes.
  */
 #define _POSIX_C_SOURCE 200809L
 
 #include <bbp.h>
 
 #include <inttypes.h>
+#include <pthread.h>
 #include <stdio.h>
 #include <stdlib.h>
 #include <string.h>
 #include <time.h>
 
 #include "plain.h"
+#include "program.h"
 
-enum { BLOCKS = 256, REPETITIONS = 7, LEDGERS = 64 };
+enum { BLOCKS = 256, REPETITIONS = 7, LEDGERS = 64, STACK = 1 << 20, UNTOUCHED = 0xA5 };
 
 /* Every `step`-th block of each row, so that a repetition takes some tenths of a second. */
 static const struct {
@@ -37,10 +40,15 @@ static double least(double x, double y)
 
 static void engine_work(uint64_t p, uint64_t c, uint64_t row, uint64_t block, uint8_t sum[16])
 {
-    if (bbp_work(p, c, row, block, sum, 16) != 0) {
-        fputs("bench: a ticket is refused\n", stderr);
-        exit(1);
-    }
+    finished("work", bbp_work(p, c, row, block, sum, 16));
+}
+
+static void engine_halves(uint64_t p, uint64_t c, uint64_t row, uint64_t block, uint8_t sum[16])
+{
+    uint8_t upper[16];
+    finished("work lower", bbp_work_lower(p, c, row, block, sum, 16));
+    finished("work upper", bbp_work_upper(p, c, row, block, upper, 16));
+    add_sum(sum, upper);
 }
 
 typedef void work(uint64_t p, uint64_t c, uint64_t row, uint64_t block, uint8_t sum[16]);
@@ -55,23 +63,26 @@ static double time_tickets(work *ticket, int run, uint8_t *sums)
     return seconds() - began;
 }
 
-/* Prints the ratio and gives the engine's time for the whole run. */
+/* Prints the ratios and gives the engine's time for the whole run. */
 static double compare_work(int run)
 {
-    static uint8_t sums[2][BBP_ROWS * BLOCKS * 16];
-    double engine = 1e9, plain = 1e9;
+    static uint8_t sums[3][BBP_ROWS * BLOCKS * 16];
+    double engine = 1e9, plain = 1e9, halves = 1e9;
     for (int i = 0; i < REPETITIONS; i++) {
         engine = least(engine, time_tickets(engine_work, run, sums[0]));
         plain = least(plain, time_tickets(plain_work, run, sums[1]));
+        halves = least(halves, time_tickets(engine_halves, run, sums[2]));
     }
-    if (memcmp(sums[0], sums[1], sizeof sums[0]) != 0) {
-        fputs("bench: the engine and the plain C differ\n", stderr);
-        exit(1);
-    }
+    for (int i = 1; i < 3; i++)
+        if (memcmp(sums[0], sums[i], sizeof sums[0]) != 0) {
+            fprintf(stderr, "bench: the engine and %s differ\n", i == 1 ? "the plain C" : "its halves");
+            exit(1);
+        }
     uint64_t blocks = (BLOCKS - runs[run].first + runs[run].step - 1) / runs[run].step;
     double whole = engine * BLOCKS / (double)blocks;
     printf("p = %-10" PRIu64 " engine %.3f s, plain C %.3f s, engine / plain C %.3f; whole run about %.1f s\n", runs[run].p,
            engine, plain, engine / plain, whole);
+    printf("p = %-10" PRIu64 " halves %.3f s, halves / whole %.3f\n", runs[run].p, halves, halves / engine);
     return whole;
 }
 
@@ -86,54 +97,46 @@ static double terms_by_bits(uint64_t p)
 static uint8_t ledgers[LEDGERS][BBP_LEDGER_SIZE];
 static uint8_t ledger[BBP_LEDGER_SIZE], list[BBP_LIST_MAX], sheet[BBP_SHEET_MAX], sums[BBP_ROWS * BLOCKS * 16];
 
-static void need(const char *call, int64_t answer)
-{
-    if (answer < 0) {
-        fprintf(stderr, "bench: %s is refused with %" PRId64 "\n", call, -answer);
-        exit(1);
-    }
-}
-
 static void open_ledger(void)
 {
-    need("open", bbp_open(1, BLOCKS, ledger, sizeof ledger));
+    finished("open", bbp_open(1, BLOCKS, ledger, sizeof ledger));
 }
 
 static void open_ledgers(void)
 {
     for (int i = 0; i < LEDGERS; i++)
-        need("open", bbp_open(1, BLOCKS, ledgers[i], sizeof ledgers[i]));
+        finished("open", bbp_open(1, BLOCKS, ledgers[i], sizeof ledgers[i]));
 }
 
 /* One post is too short for the clock. */
 static void post_one_each(void)
 {
     for (int i = 0; i < LEDGERS; i++)
-        need("post", bbp_post(ledgers[i], sizeof ledgers[i], 1, BLOCKS, 3, 100, sums, 16));
+        finished("post", bbp_post(ledgers[i], sizeof ledgers[i], 1, BLOCKS, 3, 100, sums, 16));
 }
 
 static void post_all(void)
 {
     for (uint64_t row = 0; row < BBP_ROWS; row++)
         for (uint64_t block = 0; block < BLOCKS; block++)
-            need("post", bbp_post(ledger, sizeof ledger, 1, BLOCKS, row, block, sums, 16));
+            finished("post", bbp_post(ledger, sizeof ledger, 1, BLOCKS, row, block, sums, 16));
 }
 
 static void read_sheet(void)
 {
     static uint8_t read_list[BBP_LIST_MAX], read_sums[sizeof sums];
-    need("sheet read", bbp_sheet_read(sheet, sizeof sheet, read_list, sizeof read_list, read_sums, sizeof read_sums));
+    finished("sheet read", bbp_sheet_read(sheet, sizeof sheet, read_list, sizeof read_list, read_sums, sizeof read_sums));
 }
 
 static void post_sheet(void)
 {
-    need("sheet post", bbp_sheet_post(ledger, sizeof ledger, sheet, sizeof sheet));
+    finished("sheet post", bbp_sheet_post(ledger, sizeof ledger, sheet, sizeof sheet));
 }
 
 static void close_ledger(void)
 {
     uint8_t digits[BBP_DIGITS_SIZE];
-    need("close", bbp_close(ledger, sizeof ledger, digits, sizeof digits));
+    finished("close", bbp_close(ledger, sizeof ledger, digits, sizeof digits));
 }
 
 static void nothing(void)
@@ -157,12 +160,39 @@ static void compare_books(void)
 {
     for (uint64_t i = 0; i < BBP_ROWS * BLOCKS; i++)
         list[2 * i] = (uint8_t)i, list[2 * i + 1] = (uint8_t)(i / 256);
-    need("sheet write", bbp_sheet_write(1, BLOCKS, list, sizeof list, sheet, sizeof sheet));
+    finished("sheet write", bbp_sheet_write(1, BLOCKS, list, sizeof list, sheet, sizeof sheet));
     time_calls("posting one ticket", LEDGERS, open_ledgers, post_one_each);
     time_calls("post of all 1,792 tickets, one by one", 1, open_ledger, post_all);
     time_calls("reading a sheet of 1,792 tickets", 1, nothing, read_sheet);
     time_calls("posting a sheet of 1,792 tickets", 1, open_ledger, post_sheet);
     time_calls("closing a full ledger of C = 256", 1, nothing, close_ledger);
+}
+
+static uint8_t stack[STACK] __attribute__((aligned(4096)));
+static volatile uintptr_t stack_before;
+
+static void *work_largest_half(void *unused)
+{
+    uint8_t sum[16];
+    stack_before = (uintptr_t)__builtin_frame_address(0);
+    finished("work lower", bbp_work_lower(BBP_MAX_POSITION, 1, 0, 0, sum, 16));
+    return unused;
+}
+
+/* The half with the most cuts one inside the other. It never ends, so its stack is looked at while it is at work. */
+static void measure_stack(void)
+{
+    const struct timespec while_at_work = {0, 200000000};
+    pthread_attr_t attributes;
+    pthread_t thread;
+    size_t untouched = 0;
+    memset(stack, UNTOUCHED, sizeof stack);
+    if ((errno = pthread_attr_init(&attributes)) != 0 || (errno = pthread_attr_setstack(&attributes, stack, STACK)) != 0 ||
+        (errno = pthread_create(&thread, &attributes, work_largest_half, NULL)) != 0 || nanosleep(&while_at_work, NULL) != 0)
+        fail("thread");
+    while (untouched < STACK && ((const volatile uint8_t *)stack)[untouched] == UNTOUCHED)
+        untouched++;
+    printf("%-52s %9zu bytes\n", "stack of a half at p = 2^60, C = 1", stack_before - (uintptr_t)stack - untouched);
 }
 
 int main(void)
@@ -172,5 +202,6 @@ int main(void)
     printf("from p = 10^6 to 10^7: time grows by %.2f, terms x bits by %.2f\n", far / near,
            terms_by_bits(runs[1].p) / terms_by_bits(runs[0].p));
     compare_books();
+    measure_stack();
     return 0;
 }

@@ -1,13 +1,15 @@
 /*
- * acceptance [--keep FILE] POSITION [BLOCKS] - opens a run, works all its
- * tickets, closes it and prints the closing line: position, number of digits,
- * digits. With --keep the ledger is written to FILE before it is closed, so
- * that it is there where the closing is refused or looks odd. FILE is opened
- * before the work: one that cannot be written is known at once.
+ * acceptance [--halves] [--keep FILE] POSITION [BLOCKS] - opens a run, works
+ * all its tickets, closes it and prints the closing line: position, number of
+ * digits, digits. With --keep the ledger is written to FILE before it is
+ * closed, so that it is there where the closing is refused or looks odd. FILE
+ * is opened before the work: one that cannot be written is known at once.
  *
  * In each row every fourth ticket comes as a supplier's: it is written into a
  * sheet, the sheet is read back, and posted as a whole. The others are worked
- * and posted one by one.
+ * and posted one by one. With --halves each of these is worked by two
+ * processes, a half by each, and posted with the sum of both: the ledger and
+ * the closing line are the same.
  *
  * acceptance --rows LEDGER [ROW ..] - shows which rows of a kept ledger to work
  * again. LEDGER is a file, `-` being standard input; tickets may be missing
@@ -30,6 +32,7 @@
 #include <stdlib.h>
 #include <string.h>
 
+#include "halves.h"
 #include "program.h"
 #include "progress.h"
 
@@ -37,6 +40,7 @@ enum { SUPPLIED = 4, DIFFERS = 3 };
 
 static struct {
     uint64_t p, c, done;
+    int by_halves;
     uint8_t ledger[BBP_LEDGER_SIZE];
     struct progress bar;
 } run;
@@ -57,7 +61,10 @@ static void tickets_done(uint64_t count)
 static void work_and_post(uint64_t row, uint64_t block)
 {
     uint8_t sum[BBP_SUM_SIZE];
-    finished("work", bbp_work(run.p, run.c, row, block, sum, sizeof sum));
+    if (run.by_halves)
+        work_halves(run.p, run.c, row, block, sum);
+    else
+        finished("work", bbp_work(run.p, run.c, row, block, sum, sizeof sum));
     finished("post", bbp_post(run.ledger, sizeof run.ledger, run.p, run.c, row, block, sum, sizeof sum));
     tickets_done(1);
 }
@@ -206,16 +213,27 @@ static int show_rows(const char *name, int count, char **names)
     return status;
 }
 
+/* Takes --halves and --keep FILE from the front, in either order and each once; gives where the numbers start. */
+static char **take_options(char **at, const char **kept)
+{
+    for (;; at++)
+        if (*at != NULL && strcmp(*at, "--halves") == 0 && !run.by_halves)
+            run.by_halves = 1;
+        else if (*at != NULL && strcmp(*at, "--keep") == 0 && at[1] != NULL && *kept == NULL)
+            *kept = *++at;
+        else
+            return at;
+}
+
 int main(int argc, char **argv)
 {
-    const char *option = argc > 2 ? argv[1] : "";
-    if (strcmp(option, "--rows") == 0)
+    const char *kept = NULL;
+    if (argc > 2 && strcmp(argv[1], "--rows") == 0)
         return show_rows(argv[2], argc - 3, argv + 3);
-    const char *kept = strcmp(option, "--keep") == 0 ? argv[2] : NULL;
-    char **numbers = argv + (kept != NULL ? 3 : 1);
+    char **numbers = take_options(argv + 1, &kept);
     int count = (int)(argv + argc - numbers);
     if (count < 1 || count > 2 || numbers[0][0] == '-') {
-        fputs("usage: acceptance [--keep FILE] POSITION [BLOCKS]\n       acceptance --rows LEDGER [ROW ..]\n", stderr);
+        fputs("usage: acceptance [--halves] [--keep FILE] POSITION [BLOCKS]\n       acceptance --rows LEDGER [ROW ..]\n", stderr);
         return 2;
     }
     open_run(number(numbers[0]), count == 2 ? number(numbers[1]) : BBP_MAX_BLOCKS);

@@ -1,6 +1,7 @@
 /*
  * formats - prints the worked examples of docs/FORMATS.md, each with its
- * title: the run p = 1, C = 14 from opening to closing, and the sums of another.
+ * title: the run p = 1, C = 14 from opening to closing, the halves of a ticket,
+ * and the sums of another run.
  */
 #include <bbp.h>
 
@@ -37,13 +38,21 @@ static void print_bytes(const char *title, const uint8_t *bytes, size_t len)
     }
 }
 
-static void print_sum(uint64_t p, uint64_t c, uint64_t row, uint64_t block)
+typedef int64_t work_call(uint64_t p, uint64_t c, uint64_t row, uint64_t block, uint8_t *sum, size_t sum_len);
+
+static void print_sum_by(work_call *call, const char *of, uint64_t p, uint64_t c, uint64_t row, uint64_t block)
 {
     uint8_t sum[BBP_SUM_SIZE];
-    char title[64];
-    snprintf(title, sizeof title, "sum of ticket (%" PRIu64 ", %" PRIu64 ") of p = %" PRIu64 ", C = %" PRIu64, row, block, p, c);
-    finished("work", bbp_work(p, c, row, block, sum, sizeof sum));
+    char title[80];
+    snprintf(title, sizeof title, "sum of %sticket (%" PRIu64 ", %" PRIu64 ") of p = %" PRIu64 ", C = %" PRIu64, of, row, block,
+             p, c);
+    finished("work", call(p, c, row, block, sum, sizeof sum));
     print_bytes(title, sum, sizeof sum);
+}
+
+static void print_sum(uint64_t p, uint64_t c, uint64_t row, uint64_t block)
+{
+    print_sum_by(bbp_work, "", p, c, row, block);
 }
 
 static void post_sheet(void)
@@ -72,13 +81,8 @@ static void post_rest(void)
 static void print_total(void)
 {
     uint8_t total[BBP_SUM_SIZE] = {0};
-    for (int row = 0; row < BBP_ROWS; row++) {
-        unsigned carry = 0;
-        for (int i = 0; i < BBP_SUM_SIZE; i++, carry >>= 8) {
-            carry += (unsigned)total[i] + ledger[BBP_ROW_SUM_AT(row) + i];
-            total[i] = (uint8_t)carry;
-        }
-    }
+    for (int row = 0; row < BBP_ROWS; row++)
+        add_sum(total, ledger + BBP_ROW_SUM_AT(row));
     print_bytes("total of its row sums", total, sizeof total);
 }
 
@@ -86,6 +90,9 @@ int main(void)
 {
     print_sum(P, C, 0, 0);
     print_sum(P, C, 3, 1);
+    print_sum_by(bbp_work_lower, "the lower half of ", P, 3, 2, 2);
+    print_sum_by(bbp_work_upper, "the upper half of ", P, 3, 2, 2);
+    print_sum(P, 3, 2, 2);
     finished("open", bbp_open(P, C, ledger, sizeof ledger));
     print_bytes("ledger, fresh", ledger, sizeof ledger);
     print_bytes("list of tickets (0, 0) and (3, 1)", list, sizeof list);

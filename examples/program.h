@@ -1,4 +1,4 @@
-/* What the programs over bbp.h share: numbers in arguments and in bytes, refusals in words, and the closing line. */
+/* What the programs over bbp.h share: numbers in arguments and in bytes, sums, refusals in words, the closing line. */
 #ifndef PROGRAM_H
 #define PROGRAM_H
 
@@ -29,6 +29,16 @@ static inline uint64_t number_at(const uint8_t *at, int bytes)
     while (bytes-- > 0)
         value = value << 8 | at[bytes];
     return value;
+}
+
+/* Adds to a sum modulo 2^128: what is carried out of the last byte is dropped. */
+static inline void add_sum(uint8_t *sum, const uint8_t *more)
+{
+    unsigned carry = 0;
+    for (int i = 0; i < BBP_SUM_SIZE; i++, carry >>= 8) {
+        carry += (unsigned)sum[i] + more[i];
+        sum[i] = (uint8_t)carry;
+    }
 }
 
 static inline const char *meaning(int64_t answer)

@@ -5,8 +5,11 @@
  * position 1) and a block count C (1 to 256). The seven rows of the formula
  * are cut into C blocks each; one block of one row is a ticket. Tickets are
  * worked one by one, here or by a supplier, and posted to the run's ledger,
- * singly or as a sheet. A ledger with every ticket posted is closed: that
- * gives the hexadecimal digits of pi from position p on that the run settles.
+ * singly or as a sheet. A large ticket can be worked by two machines, a half
+ * each, and posted with the sum of both. A ledger with every ticket posted is
+ * closed: that gives the hexadecimal digits of pi from position p on that the
+ * run settles.
+ *
  * docs/FORMATS.md, installed as share/doc/bbp/FORMATS.md, gives the bytes of a
  * ledger, a list and a sheet, the arithmetic, and each call's refusals in order.
  *
@@ -37,8 +40,8 @@ extern "C" {
 
 /* The version. BBP_VERSION grows from each version to the next, so that #if can compare it. */
 #define BBP_VERSION_MAJOR 2
-#define BBP_VERSION_MINOR 0
-#define BBP_VERSION_PATCH 1
+#define BBP_VERSION_MINOR 1
+#define BBP_VERSION_PATCH 0
 #define BBP_VERSION (1000000 * BBP_VERSION_MAJOR + 1000 * BBP_VERSION_MINOR + BBP_VERSION_PATCH)
 #define BBP_VERSION_STRING \
     BBP_QUOTED(BBP_VERSION_MAJOR) "." BBP_QUOTED(BBP_VERSION_MINOR) "." BBP_QUOTED(BBP_VERSION_PATCH)
@@ -52,7 +55,7 @@ extern "C" {
 
 /* Sizes of slices, in bytes. */
 #define BBP_LEDGER_SIZE 352 /* a ledger, exactly: 16, and 48 for each row */
-#define BBP_SUM_SIZE 16     /* a ticket's sum, exactly */
+#define BBP_SUM_SIZE 16     /* the sum of a ticket or of a half, exactly */
 #define BBP_DIGITS_SIZE 32  /* the digits' slice of a closing, exactly */
 #define BBP_LIST_MAX 3584   /* a list to be worked, at most: 2 for each of 7 * 256 tickets */
 #define BBP_SHEET_MAX 35856 /* a sheet that is read or posted, at most */
@@ -106,6 +109,28 @@ enum bbp_refusal {
  * The time grows with the number of terms, about 0.4 * p / c.
  */
 int64_t bbp_work(uint64_t p, uint64_t c, uint64_t row, uint64_t block, uint8_t *sum, size_t sum_len);
+
+/*
+ * Work one half of the ticket (p, c, row, block), and are refused as bbp_work
+ * is. Where the ticket has the terms from `first` up to, not including, `end`,
+ * the cut is floor((first + end) / 2): the lower half has the terms before it,
+ * the upper half the term at the cut and those after. A term has the sign that
+ * it has in the ticket. Of a ticket with one term the lower half is empty, of
+ * an empty ticket both are; an empty half has sum 0. Each call writes the sum
+ * of its half, modulo 2^128, into the 16 bytes of `sum`. Answer 0, or refusal 1
+ * (sum_len not 16), 2 or 4.
+ *
+ * The two sums added modulo 2^128 are the ticket's: byte by byte from the
+ * first, each with the carry of the one before, and the carry out of the last
+ * byte is dropped. A half is not a ticket: the ledger has no mark for it, and
+ * only the sum of the whole ticket can be posted.
+ *
+ * These calls go on cutting in two until they come to single terms. The stack
+ * that they need grows with the logarithm of the number of terms, which
+ * matters to a caller that starts threads with small stacks.
+ */
+int64_t bbp_work_lower(uint64_t p, uint64_t c, uint64_t row, uint64_t block, uint8_t *sum, size_t sum_len);
+int64_t bbp_work_upper(uint64_t p, uint64_t c, uint64_t row, uint64_t block, uint8_t *sum, size_t sum_len);
 
 /*
  * Opens the run (p, c): writes a fresh ledger, with no ticket marked and every

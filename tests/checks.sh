@@ -62,3 +62,50 @@ flip() {
     byte=$(od -An -tu1 -j "$2" -N 1 "$1")
     printf "\\$(printf %o $((byte ^ 1)))" | dd of="$1" bs=1 seek="$2" conv=notrunc status=none
 }
+
+# Whether the process is there and not only waiting to be taken notice of.
+works() {
+    local state
+    read -r _ _ state _ 2>/dev/null <"/proc/$1/stat" && [ "$state" != Z ]
+}
+
+# until_true COMMAND.. - tried for ten seconds.
+until_true() {
+    for _ in $(seq 200); do
+        if "$@"; then return 0; fi
+        sleep 0.05
+    done
+    return 1
+}
+
+# has_children PARENT COUNT - leaves them in `children`.
+has_children() {
+    children=$(cat "/proc/$1/task/$1/children" 2>/dev/null)
+    [ "$(wc -w <<<"$children")" -eq "$2" ]
+}
+
+none_works() {
+    for child in $children; do
+        if works "$child"; then return 1; fi
+    done
+}
+
+ended() { ! works "$1"; }
+
+# stopped SIGNAL STATUS COUNT PROGRAM.. - a program at work with so many processes of its own ends by that signal, and they
+# with it. A signal that is ignored here, as below nohup, is not ignored by the program.
+stopped() {
+    local signal=$1 status=$2 count=$3 parent left=0
+    shift 3
+    set -m
+    env --default-signal=HUP,INT,TERM "$@" >/dev/null 2>&1 &
+    parent=$!
+    set +m
+    until_true has_children "$parent" "$count" || { kill -KILL "$parent"; same "processes of $*" "$children" "$count"; }
+    kill "-$signal" "$parent"
+    until_true ended "$parent" 2>/dev/null || kill -KILL "$parent"
+    wait "$parent" 2>/dev/null
+    same "the status after $signal" $? "$status"
+    until_true none_works || { left=1; kill -KILL $children; }
+    same "processes that go on after $signal" "$left" 0
+}

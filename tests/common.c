@@ -308,28 +308,37 @@ void expect_huge_kept(void)
     expect_huge(NULL, 0);
 }
 
-/* Calls that take longer than anyone waits. */
+/* Calls in child processes: those that take longer than anyone waits, and those that may not survive. */
 
-static void work_and_end(void (*call)(void))
-{
-    struct itimerval limit = {{0, 0}, {0, 100000}};
-    if (signal(SIGPROF, SIG_DFL) == SIG_ERR || setitimer(ITIMER_PROF, &limit, NULL) != 0)
-        _exit(2);
-    call();
-    _exit(0);
-}
-
-int still_working(void (*call)(void))
+/* The child's status. It is stopped after that much processor time; with none it is not. */
+static int status_of_child(void (*call)(void), suseconds_t microseconds)
 {
     int status;
+    const struct itimerval limit = {{0, 0}, {0, microseconds}};
     pid_t child = fork();
-    if (child == 0)
-        work_and_end(call);
+    if (child == 0) {
+        if (signal(SIGPROF, SIG_DFL) == SIG_ERR || setitimer(ITIMER_PROF, &limit, NULL) != 0)
+            _exit(2);
+        call();
+        _exit(0);
+    }
     if (child < 0 || waitpid(child, &status, 0) != child || (WIFEXITED(status) && WEXITSTATUS(status) == 2)) {
         fprintf(stderr, "%s: no child process\n", test_name);
         exit(2);
     }
+    return status;
+}
+
+int still_working(void (*call)(void))
+{
+    int status = status_of_child(call, 100000);
     return WIFSIGNALED(status) && WTERMSIG(status) == SIGPROF;
+}
+
+int comes_back(void (*call)(void))
+{
+    int status = status_of_child(call, 0);
+    return WIFEXITED(status) && WEXITSTATUS(status) == 0;
 }
 
 uint8_t *copy_of(const uint8_t *bytes, size_t len)

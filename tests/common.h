@@ -59,6 +59,11 @@ void expect_huge_kept(void);
 
 /* Whether a call, made in a child process, is still at work after 0.1 seconds of processor time; then it is stopped. */
 int still_working(void (*call)(void));
+/* Whether a call, made in a child process, comes back; a check that fails there ends the child. */
+int comes_back(void (*call)(void));
+
+/* A call that works a ticket or a half of one: bbp_work, bbp_work_lower, bbp_work_upper, and the reference's. */
+typedef int64_t work_call(uint64_t p, uint64_t c, uint64_t row, uint64_t block, uint8_t *sum, size_t sum_len);
 
 /* A copy on the heap, for the reference; freed by the caller. */
 uint8_t *copy_of(const uint8_t *bytes, size_t len);

@@ -1,6 +1,7 @@
 #!/usr/bin/env bash
 # examples.sh MINIMAL ACCEPTANCE - the examples, run: digits of pi at 1 and 1,000, refusals, arguments that are no
-# numbers, output that cannot be written, ledgers kept and their rows shown, and the bytes that docs/FORMATS.md shows.
+# numbers, output that cannot be written, tickets worked by halves, ledgers kept and their rows shown, and the bytes that
+# docs/FORMATS.md shows.
 # ENGINE is the library that they are built with.
 set -u
 minimal=$1
@@ -16,7 +17,7 @@ same "acceptance 1 1" "$("$acceptance" 1 1)" "1 30 243F6A8885A308D313198A2E03707
 same "acceptance 1000 3" "$("$acceptance" 1000 3)" "1000 29 349F1C09B075372C980991B7B25D4"
 same "acceptance 1000 256" "$("$acceptance" 1000 256)" "1000 29 349F1C09B075372C980991B7B25D4"
 
-for run in 0 '1 0' '1 257' 1152921504606846977 18446744073709551615; do
+for run in 0 '1 0' '1 257' 1152921504606846977 18446744073709551615 '--halves 0' '--halves 1 257'; do
     ends 1 "$acceptance" $run
     same "what acceptance $run says" "$said" "open: refused 2: position or block count out of range"
 done
@@ -27,8 +28,12 @@ for word in '' 1000x x ' 1000' +1000 -1000 1e3 0x3e8 18446744073709551616 184467
     ends 2 "$acceptance" 1000 "$word"
     ends 2 "$acceptance" --keep "$ledger" "$word"
     ends 2 "$acceptance" --keep "$ledger" 1000 "$word"
+    ends 2 "$acceptance" --halves "$word"
+    ends 2 "$acceptance" --halves 1000 "$word"
 done
-for words in '' '1 2 3' --rows --keep "--keep $ledger" "--keep $ledger 1 2 3" '--row 1' '--help'; do
+for words in '' '1 2 3' --rows --keep "--keep $ledger" "--keep $ledger 1 2 3" '--row 1' '--help' --halves '--halves 1 2 3' \
+    '--halves --halves 1' '--half 1' '--halves --keep' "--halves --keep $ledger" "--keep $ledger --halves" \
+    "--keep $ledger --keep $ledger 1" "--halves --rows $ledger"; do
     ends 2 "$acceptance" $words
     same "what acceptance $words says" "${said%%:*}" usage
 done
@@ -36,6 +41,7 @@ same "a ledger kept from arguments that are refused" "$(ls "$ledger" 2>/dev/null
 
 unwritable "$minimal"
 unwritable "$acceptance" 1000 3
+unwritable "$acceptance" --halves 1000 3
 
 for call in open work post close; do
     refusing examples/minimal.c bbp_$call
@@ -44,6 +50,11 @@ done
 for call in open work post sheet_write sheet_read sheet_post close; do
     refusing examples/acceptance.c bbp_$call 1000 5
     same "what acceptance says of $call" "$said" "${call/_/ }: refused 7: ticket marked already"
+done
+
+for half in lower upper; do
+    refusing examples/acceptance.c bbp_work_$half --halves 1000 5
+    same "what acceptance says of the $half half" "$said" "work $half: refused 7: ticket marked already"
 done
 
 # What docs/FORMATS.md shows is what the library gives.
@@ -146,6 +157,48 @@ unfinished_ledgers() {
     ends 124 timeout 1 "$acceptance" --rows "$ledger" 6
 }
 
+# failing TEXT LINE.. - built with these lines, a run by halves ends with status 1, and says that.
+failing() {
+    local text=$1
+    shift
+    wrapped failing examples/acceptance.c '#include <errno.h>' '#include <signal.h>' '#include <unistd.h>' "$@"
+    ends 1 "$scratch/failing" --halves 1000 5
+    same "what is said of $*" "$said" "$text"
+}
+
+# The closing line and the ledger are those of whole tickets.
+halves() {
+    local run line failed="the process of an upper half failed" kept=$scratch/kept
+    for run in 1 '1 1' '1 14' '2 256' '1000 1' '1000 3' '1000 256' '12345 7'; do
+        line=$("$acceptance" --keep "$kept" $run)
+        prints 0 "$line" "$acceptance" --halves $run
+        same "what --halves says" "$said" ""
+        prints 0 "$line" "$acceptance" --halves --keep "$ledger" $run
+        same "the ledger by halves" "$(cmp "$ledger" "$kept" 2>&1)" ""
+        rm "$ledger"
+        prints 0 "$line" "$acceptance" --keep "$ledger" --halves $run
+        same "the ledger by halves, the options the other way round" "$(cmp "$ledger" "$kept" 2>&1)" ""
+    done
+    # No ticket is worked whole but the supplier's, and no child is left at the end.
+    line="1000 29 349F1C09B075372C980991B7B25D4"
+    wrapped halves examples/acceptance.c '#include <sys/wait.h>' '#define bbp_work(...) INT64_C(-7)' \
+        '#define bbp_close(...) (waitpid(-1, NULL, WNOHANG) == -1 ? bbp_close(__VA_ARGS__) : INT64_C(-9))'
+    prints 0 "$line" "$scratch/halves" --halves 1000 5
+    wrapped whole examples/acceptance.c '#define bbp_work_lower(...) INT64_C(-7)' '#define bbp_work_upper(...) INT64_C(-7)'
+    prints 0 "$line" "$scratch/whole" 1000 5
+    # The child is killed, ends without a word, writes short, or fails after it wrote.
+    failing "$failed" '#define bbp_work_upper(...) (raise(SIGKILL), INT64_C(0))'
+    failing "$failed" '#define bbp_work_upper(...) (_exit(0), INT64_C(0))'
+    failing "$failed" '#define write(file, bytes, len) write(file, bytes, (len) - 1)'
+    failing "$failed" '#define write(file, bytes, len) (write(file, bytes, (len) - 1), (ssize_t)(len))'
+    failing "$failed" '#define write(file, bytes, len) (write(file, bytes, len), (ssize_t)-1)'
+    failing "$failed" '#define write(file, bytes, len) (write(file, bytes, len), raise(SIGKILL), (ssize_t)0)'
+    failing "pipe: Too many open files" '#define pipe(ends) (errno = EMFILE, -1)'
+    failing "fork: Resource temporarily unavailable" '#define fork() (errno = EAGAIN, (pid_t)-1)'
+    stopped TERM 143 1 "$acceptance" --halves 1152921504606846976 1
+    stopped KILL 137 1 "$acceptance" --halves 1152921504606846976 1
+}
+
 # The ledger of version 1.0.0 with every ticket of p = 1, C = 1 posted and total 50.
 old_ledger() {
     head -c 16 "$1"
@@ -207,6 +260,7 @@ bad_rows() {
     same "what --rows says of close" "$said" "$full: refused 7: ticket marked already"
 }
 
+halves
 keeping
 full_ledgers
 spoiled_ledgers

@@ -50,50 +50,6 @@ misplace() {
     cp "$directory/1000-5-1-1.sheet.fnv" "$directory/1000-5-1-2.sheet.fnv"
 }
 
-# Whether the process is there and not only waiting to be taken notice of.
-works() {
-    local state
-    read -r _ _ state _ 2>/dev/null <"/proc/$1/stat" && [ "$state" != Z ]
-}
-
-# until_true COMMAND.. - tried for ten seconds.
-until_true() {
-    for _ in $(seq 200); do
-        if "$@"; then return 0; fi
-        sleep 0.05
-    done
-    return 1
-}
-
-has_children() {
-    children=$(cat "/proc/$1/task/$1/children" 2>/dev/null)
-    [ "$(wc -w <<<"$children")" -eq 2 ]
-}
-
-none_works() {
-    for child in $children; do
-        if works "$child"; then return 1; fi
-    done
-}
-
-ended() { ! works "$1"; }
-
-# stopped SIGNAL STATUS - a farm whose tickets take minutes ends by that signal, and its processes with it. A signal that is
-# ignored here, as below nohup, is not ignored by the farm.
-stopped() {
-    set -m
-    env --default-signal=HUP,INT,TERM "$farm" 100000000000 256 "$directory" 2 >/dev/null 2>&1 &
-    local parent=$! left=0
-    set +m
-    until_true has_children "$parent" || { kill -KILL "$parent"; same "processes of the farm" "$children" two; }
-    kill "-$1" "$parent"
-    until_true ended "$parent" 2>/dev/null || kill -KILL "$parent"
-    wait "$parent" 2>/dev/null
-    same "the status after $1" $? "$2"
-    until_true none_works || { left=1; kill -KILL $children; }
-    same "processes that go on after $1" "$left" 0
-}
-
 rm -rf "$directory"
 same "a run" "$("$farm" 1000 5 "$directory" 2)" "$line"
 same "files kept" "$(find "$directory" -type f | wc -l)" 71
@@ -105,10 +61,10 @@ rm "$directory/1000-5.ledger"
 mkdir "$directory/1000-5.ledger"
 ends 1 "$farm" 1000 5 "$directory"
 
-stopped TERM 143
-stopped INT 130
-stopped HUP 129
-stopped KILL 137
+# Tickets that take minutes.
+for end in 'TERM 143' 'INT 130' 'HUP 129' 'KILL 137'; do
+    stopped $end 2 "$farm" 100000000000 256 "$directory" 2
+done
 
 ends 1 "$farm" 0 5 "$directory"
 same "what a refusal says" "$said" "open: refused 2: position or block count out of range"

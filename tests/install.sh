@@ -45,12 +45,13 @@ digits=349F1C09B075372C980991B7B25D4
 same "minimal" "$("$scratch/minimal")" "$digits"
 same "minimal in C++" "$("$scratch/minimal_cc")" "$digits"
 same "acceptance 1000" "$("$scratch/acceptance" 1000)" "1000 29 $digits"
+same "acceptance --halves 1000" "$("$scratch/acceptance" --halves 1000)" "1000 29 $digits"
 
 cat >"$scratch/version.c" <<'END'
 #include <bbp.h>
 #include <stdio.h>
-#if BBP_VERSION < 2000000
-#error "older than the ledger with row sums"
+#if BBP_VERSION < 2001000
+#error "older than the halves of a ticket"
 #endif
 int main(void) { printf("%s %ld\n", BBP_VERSION_STRING, (long)BBP_VERSION); return 0; }
 END

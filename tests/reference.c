@@ -68,6 +68,12 @@ uint64_t ref_block_first(uint64_t p, uint64_t c, uint64_t block)
     return (uint64_t)((ref_u128)block * ref_term_count(p) / c);
 }
 
+/* Document 02, slip 3. */
+uint64_t ref_block_cut(uint64_t p, uint64_t c, uint64_t block)
+{
+    return (ref_block_first(p, c, block) + ref_block_first(p, c, block + 1)) / 2;
+}
+
 uint64_t ref_term_divisor(uint64_t row, uint64_t k)
 {
     return (uint64_t)rows[row].m * k + (uint64_t)rows[row].j;
@@ -114,15 +120,30 @@ ref_u128 ref_term_size(uint64_t p, uint64_t row, uint64_t k)
     return shifted_quotient(power_of_two_mod((uint64_t)exponent - 128, divisor), divisor);
 }
 
-static ref_u128 ticket_sum(uint64_t p, uint64_t c, uint64_t row, uint64_t block)
+/* The terms from `first` up to, not including, `end`. */
+static ref_u128 range_sum(uint64_t p, uint64_t row, uint64_t first, uint64_t end)
 {
     ref_u128 sum = 0;
-    uint64_t end = ref_block_first(p, c, block + 1);
-    for (uint64_t k = ref_block_first(p, c, block); k < end; k++) {
+    for (uint64_t k = first; k < end; k++) {
         ref_u128 size = ref_term_size(p, row, k);
         sum += ref_term_added(row, k) ? size : -size;
     }
     return sum;
+}
+
+static ref_u128 ticket_sum(uint64_t p, uint64_t c, uint64_t row, uint64_t block)
+{
+    return range_sum(p, row, ref_block_first(p, c, block), ref_block_first(p, c, block + 1));
+}
+
+static ref_u128 lower_sum(uint64_t p, uint64_t c, uint64_t row, uint64_t block)
+{
+    return range_sum(p, row, ref_block_first(p, c, block), ref_block_cut(p, c, block));
+}
+
+static ref_u128 upper_sum(uint64_t p, uint64_t c, uint64_t row, uint64_t block)
+{
+    return range_sum(p, row, ref_block_cut(p, c, block), ref_block_first(p, c, block + 1));
 }
 
 ref_refusals ref_work_refusals(uint64_t p, uint64_t c, uint64_t row, uint64_t block, size_t sum_len)
@@ -137,12 +158,28 @@ ref_refusals ref_work_refusals(uint64_t p, uint64_t c, uint64_t row, uint64_t bl
     return refusals;
 }
 
-int64_t ref_work(uint64_t p, uint64_t c, uint64_t row, uint64_t block, uint8_t *sum, size_t sum_len)
+static int64_t work(ref_u128 (*sum_of)(uint64_t p, uint64_t c, uint64_t row, uint64_t block), uint64_t p, uint64_t c,
+                    uint64_t row, uint64_t block, uint8_t *sum, size_t sum_len)
 {
     ref_refusals refusals = ref_work_refusals(p, c, row, block, sum_len);
     if (refusals == 0)
-        store_sum(sum, ticket_sum(p, c, row, block));
+        store_sum(sum, sum_of(p, c, row, block));
     return ref_answer(refusals);
+}
+
+int64_t ref_work(uint64_t p, uint64_t c, uint64_t row, uint64_t block, uint8_t *sum, size_t sum_len)
+{
+    return work(ticket_sum, p, c, row, block, sum, sum_len);
+}
+
+int64_t ref_work_lower(uint64_t p, uint64_t c, uint64_t row, uint64_t block, uint8_t *sum, size_t sum_len)
+{
+    return work(lower_sum, p, c, row, block, sum, sum_len);
+}
+
+int64_t ref_work_upper(uint64_t p, uint64_t c, uint64_t row, uint64_t block, uint8_t *sum, size_t sum_len)
+{
+    return work(upper_sum, p, c, row, block, sum, sum_len);
 }
 
 /* The ledger: p at 0, C at 8, zero bytes at 10, the row sums at 16, marks at 128. */

@@ -1,7 +1,7 @@
 /*
- * An implementation of the seven calls written from document 01 and slip 1 of
- * document 02 alone, for comparison. It prefers the obvious to the fast: remainders by `%` on 128
- * bits, every condition of the refusal table evaluated by itself.
+ * An implementation of the nine calls written from document 01 and slips 1 and
+ * 3 of document 02 alone, for comparison. It prefers the obvious to the fast: remainders by `%` on 128
+ * bits, every condition of the refusal table evaluated by itself, terms added from first to last.
  */
 #ifndef REFERENCE_H
 #define REFERENCE_H
@@ -13,6 +13,8 @@ __extension__ typedef unsigned __int128 ref_u128;
 
 /* The arguments and answers of the calls of bbp.h. */
 int64_t ref_work(uint64_t p, uint64_t c, uint64_t row, uint64_t block, uint8_t *sum, size_t sum_len);
+int64_t ref_work_lower(uint64_t p, uint64_t c, uint64_t row, uint64_t block, uint8_t *sum, size_t sum_len);
+int64_t ref_work_upper(uint64_t p, uint64_t c, uint64_t row, uint64_t block, uint8_t *sum, size_t sum_len);
 int64_t ref_open(uint64_t p, uint64_t c, uint8_t *ledger, size_t ledger_len);
 int64_t ref_post(uint8_t *ledger, size_t ledger_len, uint64_t p, uint64_t c, uint64_t row, uint64_t block,
                  const uint8_t *sum, size_t sum_len);
@@ -28,6 +30,7 @@ int64_t ref_close(const uint8_t *ledger, size_t ledger_len, uint8_t *digits, siz
  * smaller number applies then.
  */
 typedef unsigned ref_refusals;
+/* The working calls, of a ticket and of its halves, are refused alike. */
 ref_refusals ref_work_refusals(uint64_t p, uint64_t c, uint64_t row, uint64_t block, size_t sum_len);
 ref_refusals ref_open_refusals(uint64_t p, uint64_t c, size_t ledger_len);
 ref_refusals ref_post_refusals(const uint8_t *ledger, size_t ledger_len, uint64_t p, uint64_t c, uint64_t row,
@@ -37,9 +40,10 @@ ref_refusals ref_sheet_read_refusals(const uint8_t *sheet, size_t sheet_len, siz
 ref_refusals ref_sheet_post_refusals(const uint8_t *ledger, size_t ledger_len, const uint8_t *sheet, size_t sheet_len);
 ref_refusals ref_close_refusals(const uint8_t *ledger, size_t ledger_len, size_t digits_len);
 
-/* Parts that the vectors of document 01 speak of. */
+/* Parts that the vectors speak of. */
 uint64_t ref_term_count(uint64_t p);
 uint64_t ref_block_first(uint64_t p, uint64_t c, uint64_t block);
+uint64_t ref_block_cut(uint64_t p, uint64_t c, uint64_t block);
 uint64_t ref_term_divisor(uint64_t row, uint64_t k);
 int64_t ref_term_exponent(uint64_t p, uint64_t row, uint64_t k);
 int ref_term_added(uint64_t row, uint64_t k);

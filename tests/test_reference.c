@@ -1,9 +1,7 @@
-/* The reference against vectors.txt: terms, counts, blocks and tickets. No engine is linked. */
-#include "common.h"
+/* The reference against vectors.txt: terms, counts, blocks, tickets and halves. No engine is linked. */
 #include "vectors.h"
 
 #include <inttypes.h>
-#include <string.h>
 
 static void compare_term(const struct term_vector *v)
 {
@@ -19,20 +17,25 @@ static void compare_count(uint64_t p, uint64_t terms)
     CHECK(ref_term_count(p) == terms, "K of p %" PRIu64, p);
 }
 
-static void compare_block(const struct block_vector *v)
+static void compare_range(const struct block_vector *v, const char *what, uint64_t first, uint64_t end)
 {
-    CHECK(ref_block_first(v->p, v->c, v->block) == v->first, "first of p %" PRIu64 " C %" PRIu64 " block %" PRIu64, v->p,
-          v->c, v->block);
-    CHECK(ref_block_first(v->p, v->c, v->block + 1) == v->end, "end of p %" PRIu64 " C %" PRIu64 " block %" PRIu64, v->p,
-          v->c, v->block);
+    CHECK(first == v->first, "first of the %s p %" PRIu64 " C %" PRIu64 " block %" PRIu64, what, v->p, v->c, v->block);
+    CHECK(end == v->end, "end of the %s p %" PRIu64 " C %" PRIu64 " block %" PRIu64, what, v->p, v->c, v->block);
 }
 
-static void compare_ticket(const struct ticket_vector *v)
+static void compare_block(const struct block_vector *v)
 {
-    uint8_t sum[16];
-    CHECK(ref_work(v->p, v->c, v->row, v->block, sum, 16) == 0, "p %" PRIu64 " is refused", v->p);
-    CHECK(memcmp(sum, v->bytes, 16) == 0 && ref_load_sum(sum) == v->sum,
-          "sum of p %" PRIu64 " C %" PRIu64 " row %" PRIu64 " block %" PRIu64, v->p, v->c, v->row, v->block);
+    compare_range(v, "block", ref_block_first(v->p, v->c, v->block), ref_block_first(v->p, v->c, v->block + 1));
+}
+
+static void compare_lower_half(const struct block_vector *v)
+{
+    compare_range(v, "lower half", ref_block_first(v->p, v->c, v->block), ref_block_cut(v->p, v->c, v->block));
+}
+
+static void compare_upper_half(const struct block_vector *v)
+{
+    compare_range(v, "upper half", ref_block_cut(v->p, v->c, v->block), ref_block_first(v->p, v->c, v->block + 1));
 }
 
 int main(int argc, char **argv)
@@ -40,7 +43,11 @@ int main(int argc, char **argv)
     start("reference", argc, argv);
     CHECK(each_term(compare_term) > 200, "vectors.txt has too few terms");
     CHECK(each_count(compare_count) > 10, "vectors.txt has too few counts");
-    CHECK(each_block(compare_block) > 20, "vectors.txt has too few blocks");
-    CHECK(each_ticket("ticket", compare_ticket) > 200, "vectors.txt has too few tickets");
+    CHECK(each_block("block", compare_block) > 20, "vectors.txt has too few blocks");
+    CHECK(each_block("lower-half", compare_lower_half) > 10, "vectors.txt has too few lower halves");
+    CHECK(each_block("upper-half", compare_upper_half) > 10, "vectors.txt has too few upper halves");
+    compare_sums("ticket", ref_work, 200);
+    compare_sums("lower", ref_work_lower, 200);
+    compare_sums("upper", ref_work_upper, 200);
     return finish();
 }

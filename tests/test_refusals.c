@@ -30,10 +30,25 @@ static size_t put_sheet(uint8_t *sheet, const struct example *x)
     return any_sheet(sheet, x->p, x->c, list, x->e);
 }
 
-static int64_t call_work(const struct example *x)
+static int64_t call_working(work_call *call, const struct example *x)
 {
     uint8_t sum[16] = {0};
-    return bbp_work(x->p, x->c, x->pairs[0] / 256, x->pairs[0] % 256, lend(0, sum, 16), 16);
+    return call(x->p, x->c, x->pairs[0] / 256, x->pairs[0] % 256, lend(0, sum, 16), 16);
+}
+
+static int64_t call_work(const struct example *x)
+{
+    return call_working(bbp_work, x);
+}
+
+static int64_t call_work_lower(const struct example *x)
+{
+    return call_working(bbp_work_lower, x);
+}
+
+static int64_t call_work_upper(const struct example *x)
+{
+    return call_working(bbp_work_upper, x);
 }
 
 static int64_t call_open(const struct example *x)
@@ -94,6 +109,8 @@ static const struct example examples[] = {
     {1, "a ledger of 256 bytes", call_sheet_post, {256, 1, 1, 0, UNPATCHED}, 1, 1, 1, {0, 0}},
     {1, "a ledger of 256 bytes", call_close, {256, 1, 1, 1, UNPATCHED}, 1, 1, 0, {0, 0}},
     {2, "p = 0, C = 1", call_work, FRESH, 0, 1, 1, {0, 0}},
+    {2, "p = 0, C = 1", call_work_lower, FRESH, 0, 1, 1, {0, 0}},
+    {2, "p = 0, C = 1", call_work_upper, FRESH, 0, 1, 1, {0, 0}},
     {2, "p = 0, C = 1", call_open, FRESH, 0, 1, 1, {0, 0}},
     {2, "p = 0, C = 1", call_post, FRESH, 0, 1, 1, {0, 0}},
     {2, "p = 0, C = 1", call_write, FRESH, 0, 1, 1, {0, 0}},
@@ -103,6 +120,8 @@ static const struct example examples[] = {
     {3, "contents 5, 5", call_read, FRESH, 1, 256, 2, {5, 5}},
     {3, "contents 5, 5", call_sheet_post, {BBP_LEDGER_SIZE, 1, 256, 0, UNPATCHED}, 1, 256, 2, {5, 5}},
     {4, "C = 1, block 1", call_work, FRESH, 1, 1, 1, {1, 0}},
+    {4, "C = 1, block 1", call_work_lower, FRESH, 1, 1, 1, {1, 0}},
+    {4, "C = 1, block 1", call_work_upper, FRESH, 1, 1, 1, {1, 0}},
     {4, "C = 1, block 1", call_post, FRESH, 1, 1, 1, {1, 0}},
     {4, "C = 1, block 1", call_write, FRESH, 1, 1, 1, {1, 0}},
     {4, "C = 1, block 1", call_read, FRESH, 1, 1, 1, {1, 0}},

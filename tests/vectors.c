@@ -78,34 +78,37 @@ int each_count(void (*use)(uint64_t p, uint64_t terms))
     return lines;
 }
 
-int each_block(void (*use)(const struct block_vector *))
+int each_block(const char *kind, void (*use)(const struct block_vector *))
 {
     FILE *file = open_vectors();
     char line[256];
     int lines = 0;
     struct block_vector v;
-    for (; next_line(file, "block", line); lines++) {
-        need(sscanf(line, "block %" SCNu64 " %" SCNu64 " %" SCNu64 " %" SCNu64 " %" SCNu64, &v.p, &v.c, &v.block,
+    for (; next_line(file, kind, line); lines++) {
+        need(sscanf(line, "%*s %" SCNu64 " %" SCNu64 " %" SCNu64 " %" SCNu64 " %" SCNu64, &v.p, &v.c, &v.block,
                     &v.first, &v.end), 5, line);
         use(&v);
     }
     return lines;
 }
 
-int each_ticket(const char *kind, void (*use)(const struct ticket_vector *))
+void compare_sums(const char *kind, work_call *call, int least)
 {
     FILE *file = open_vectors();
     char line[256], sum[33], bytes[33];
     int lines = 0;
-    struct ticket_vector v;
+    uint64_t p, c, row, block;
     for (; next_line(file, kind, line); lines++) {
-        need(sscanf(line, "%*s %" SCNu64 " %" SCNu64 " %" SCNu64 " %" SCNu64 " %32s %32s", &v.p, &v.c, &v.row,
-                    &v.block, sum, bytes), 6, line);
-        v.sum = hexadecimal(sum);
-        bytes_of(bytes, v.bytes);
-        use(&v);
+        uint8_t wanted[16], found[16];
+        need(sscanf(line, "%*s %" SCNu64 " %" SCNu64 " %" SCNu64 " %" SCNu64 " %32s %32s", &p, &c, &row, &block, sum, bytes),
+             6, line);
+        bytes_of(bytes, wanted);
+        any_bytes(found, 16);
+        CHECK(call(p, c, row, block, found, 16) == 0, "%s p %" PRIu64 " is refused", kind, p);
+        CHECK(memcmp(found, wanted, 16) == 0 && ref_load_sum(found) == hexadecimal(sum),
+              "%s p %" PRIu64 " C %" PRIu64 " row %" PRIu64 " block %" PRIu64, kind, p, c, row, block);
     }
-    return lines;
+    CHECK(lines > least, "vectors.txt has too few lines of %s", kind);
 }
 
 int each_closing(void (*use)(const struct closing_vector *))

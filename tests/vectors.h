@@ -2,7 +2,7 @@
 #ifndef VECTORS_H
 #define VECTORS_H
 
-#include "reference.h"
+#include "common.h"
 
 struct term_vector {
     uint64_t p, row, k, divisor;
@@ -15,12 +15,6 @@ struct block_vector {
     uint64_t p, c, block, first, end;
 };
 
-struct ticket_vector {
-    uint64_t p, c, row, block;
-    ref_u128 sum;
-    uint8_t bytes[16];
-};
-
 struct closing_vector {
     uint64_t p;
     ref_u128 total;
@@ -30,13 +24,19 @@ struct closing_vector {
 
 /*
  * Each gives the number of lines of its kind. The file is tests/vectors.txt
- * below the working directory. Tickets are of the kind "ticket", or "far": some million
- * terms, too many for the reference in a test.
+ * below the working directory. Blocks are of the kind "block", or of "lower-half"
+ * and "upper-half".
  */
 int each_term(void (*use)(const struct term_vector *));
 int each_count(void (*use)(uint64_t p, uint64_t terms));
-int each_block(void (*use)(const struct block_vector *));
-int each_ticket(const char *kind, void (*use)(const struct ticket_vector *));
+int each_block(const char *kind, void (*use)(const struct block_vector *));
 int each_closing(void (*use)(const struct closing_vector *));
+
+/*
+ * Compares what the call gives with the sums of all lines of the kind, of which
+ * there are more than `least`: "ticket", "lower", "upper"; and "far",
+ * "far-lower", "far-upper", of some million terms, too many for the reference in a test.
+ */
+void compare_sums(const char *kind, work_call *call, int least);
 
 #endif

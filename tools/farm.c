@@ -19,15 +19,13 @@
 
 #include <errno.h>
 #include <inttypes.h>
-#include <signal.h>
 #include <stdio.h>
 #include <stdlib.h>
 #include <string.h>
-#include <sys/prctl.h>
 #include <sys/stat.h>
-#include <sys/wait.h>
 #include <unistd.h>
 
+#include "process.h"
 #include "program.h"
 #include "progress.h"
 
@@ -132,11 +130,7 @@ static void work_ticket(uint64_t row, uint64_t block)
 
 static void wait_for_one(void)
 {
-    int status;
-    while (wait(&status) < 0)
-        if (errno != EINTR)
-            fail("wait");
-    if (!WIFEXITED(status) || WEXITSTATUS(status) != 0) {
+    if (!ended_well(-1)) {
         fputs("a ticket's process failed\n", stderr);
         exit(1);
     }
@@ -144,24 +138,11 @@ static void wait_for_one(void)
     progress_show(&farm.bar, ++farm.done);
 }
 
-/* A child is killed when its parent ends; where that came before the request, it ends by itself. */
-static void end_with(pid_t parent)
-{
-    if (prctl(PR_SET_PDEATHSIG, SIGKILL) != 0)
-        fail("prctl");
-    if (getppid() != parent)
-        _exit(1);
-}
-
 static void start_ticket(uint64_t row, uint64_t block)
 {
     if (farm.running == farm.processes)
         wait_for_one();
-    pid_t parent = getpid(), child = fork();
-    if (child < 0)
-        fail("fork");
-    if (child == 0) {
-        end_with(parent);
+    if (start_process() == 0) {
         work_ticket(row, block);
         _exit(0);
     }

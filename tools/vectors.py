@@ -1,5 +1,5 @@
 #!/usr/bin/env python3
-"""Writes vectors.txt: figures of document 01 worked by Python's whole numbers.
+"""Writes vectors.txt: figures of documents 01 and 02 worked by Python's whole numbers.
 
 Method. A term is worked by its definition: N = mk + j, E = 4n + l - 10k + 128,
 q = floor(2^E / N) mod 2^128 for E >= 0, else 0. While E is at most 10^6 the
@@ -9,7 +9,8 @@ because 2^E = 2^128 * (N * Q + r) with r = 2^(E-128) mod N, and 2^128 * Q is a
 multiple of 2^128. Wherever both ways are possible both are taken and compared.
 No Montgomery arithmetic, no inverse of N, no C.
 
-A ticket's sum is the signed sum of its q, reduced modulo 2^128 at the end.
+A ticket's sum is the signed sum of its q, reduced modulo 2^128 at the end. So
+is that of a half, over the terms before floor((first + end) / 2) or from there.
 A closing compares two floor divisions for d = 32 down to 1, by whole numbers
 of any sign. The digits of pi that closings are compared with come from
 Machin's formula, not from Bellard's.
@@ -53,11 +54,21 @@ def block(p, c, i):
     return i * K // c, (i + 1) * K // c
 
 
-def ticket(p, c, row, i):
+def halves(p, c, i):
+    first, end = block(p, c, i)
+    cut = (first + end) // 2
+    return (first, cut), (cut, end)
+
+
+def range_sum(p, row, first, end):
     total = 0
-    for k in range(*block(p, c, i)):
+    for k in range(first, end):
         total += numbers(p, row, k)[2] * size(p, row, k)
     return total % M
+
+
+def ticket(p, c, row, i):
+    return range_sum(p, row, *block(p, c, i))
 
 
 def charges(p):
@@ -99,10 +110,20 @@ def term_line(p, row, k, note):
           (p, row, k, N, E, "+" if s > 0 else "-", size(p, row, k), note))
 
 
-def ticket_line(p, c, row, i, kind="ticket"):
-    s = ticket(p, c, row, i)
+def sum_line(kind, p, c, row, i, s):
     print("%s %d %d %d %d %032x %s" %
           (kind, p, c, row, i, s, s.to_bytes(16, "little").hex()))
+
+
+def ticket_line(p, c, row, i, kind="ticket"):
+    sum_line(kind, p, c, row, i, ticket(p, c, row, i))
+
+
+def half_lines(p, c, row, i, kinds=("lower", "upper")):
+    sums = [range_sum(p, row, *half) for half in halves(p, c, i)]
+    for kind, s in zip(kinds, sums):
+        sum_line(kind, p, c, row, i, s)
+    return sum(sums) % M
 
 
 def closing_line(p, total):
@@ -215,6 +236,32 @@ def far_tickets():
         ticket_line(p, 256, row, i, "far")
 
 
+def half_blocks():
+    print("\n# Halves of blocks: lower-half p C i first end, upper-half p C i first end (end not included)")
+    assert halves(1, 256, 0) == ((0, 0), (0, 0)) and halves(1, 256, 255) == ((13, 13), (13, 14))
+    assert halves(1, 3, 2) == ((9, 11), (11, 14))
+    for p, c, i in [(1, 256, 0), (1, 256, 18), (1, 256, 255), (1, 1, 0), (1, 3, 0), (1, 3, 1), (1, 3, 2), (1, 7, 6),
+                    (4, 1, 0), (4, 2, 1), (1000, 3, 1), (12345, 7, 3), (6 * 10**9, 256, 255), (1 << 60, 1, 0),
+                    (1 << 60, 2, 1), (1 << 60, 3, 1), (1 << 60, 255, 254), (1 << 60, 256, 39), (1 << 60, 256, 255)]:
+        for kind, half in zip(("lower-half", "upper-half"), halves(p, c, i)):
+            print("%s %d %d %d %d %d" % ((kind, p, c, i) + half))
+
+
+def half_tickets():
+    print("\n# Halves of tickets: lower or upper, p C row block sum-as-a-number sum-as-16-bytes")
+    cases = [(1, c, row, i) for row in range(7)
+             for c, i in ((1, 0), (3, 0), (3, 1), (3, 2), (7, 6), (256, 0), (256, 18), (256, 255))]
+    cases += [(p, c, row, i) for p in (2, 3, 4, 17, 100) for row in range(7)
+              for c, i in ((1, 0), (3, 1), (7, 6), (256, 255))]
+    cases += [(p, c, row, i) for p in (1000, 12345) for row in range(7) for c, i in ((1, 0), (7, 3))]
+    cases += [(10**5, 256, row, i) for row, i in
+              ((0, 0), (1, 255), (2, 128), (3, 17), (4, 200), (5, 99), (6, 254))]
+    for case in cases:
+        assert half_lines(*case) == ticket(*case)
+    print("\n# A ticket of some million terms, with first + end above 2^32: far-lower, far-upper")
+    half_lines(6 * 10**9, 256, 5, 255, ("far-lower", "far-upper"))
+
+
 def closings():
     print("\n# Closings, all tickets marked: closing p total answer digits")
     for total in (0, 48, 49, 50, 51, M - 52, M - 51, M - 50, M - 49, M - 1,
@@ -250,6 +297,8 @@ def main():
     far_blocks()
     tickets()
     far_tickets()
+    half_blocks()
+    half_tickets()
     closings()
     quotients()
     return 0

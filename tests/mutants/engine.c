@@ -1,5 +1,5 @@
 /*
- * A stand-in for the engine, in C: the seven calls by Montgomery arithmetic
+ * A stand-in for the engine, in C: the nine calls by Montgomery arithmetic
  * and early returns, sharing no code with the reference. It is right unless
  * the environment variable MUTANT names a number; then it is wrong in the one
  * way that WRONG(number) marks. tests/mutants/run.sh shows that the tests pass
@@ -147,19 +147,62 @@ static uint64_t first_of(uint64_t p, uint64_t c, uint64_t i)
     return (uint64_t)((u128)i * terms_of(p) / c);
 }
 
-static u128 ticket(uint64_t p, uint64_t c, uint64_t row, uint64_t block)
+/*
+ * Terms of a row, from `first` up to, not including, `end`. The signs alternate
+ * from term `origin` on, which only a wrong engine has at another place than 0.
+ */
+typedef struct {
+    uint64_t p, row, first, end, origin;
+} range;
+
+static range ticket_range(uint64_t p, uint64_t c, uint64_t row, uint64_t block)
 {
-    u128 sum = 0;
     if (WRONG(62))
         p = 1, c = 1, row = 0, block = 0;
+    range terms = {p, row, first_of(p, c, block), first_of(p, c, block + 1), 0};
     if (WRONG(71) && p > UINT64_C(10000000000))
-        return 0;
-    for (uint64_t k = first_of(p, c, block); k < first_of(p, c, block + 1); k++) {
-        u128 q = term(p, row, k);
-        uint64_t odd = WRONG(8) ? 0 : k & 1;
-        sum = odd != table[row].subtracted ? sum - q : sum + q;
-    }
+        terms.end = terms.first;
+    return terms;
+}
+
+static u128 signed_term(const range *terms, uint64_t k)
+{
+    u128 q = term(terms->p, terms->row, k);
+    uint64_t odd = WRONG(8) ? 0 : (k - terms->origin) & 1;
+    return odd != table[terms->row].subtracted ? -q : q;
+}
+
+static u128 ticket(uint64_t p, uint64_t c, uint64_t row, uint64_t block)
+{
+    const range terms = ticket_range(p, c, row, block);
+    u128 sum = 0;
+    for (uint64_t k = terms.first; k < terms.end; k++)
+        sum += signed_term(&terms, k);
     return sum;
+}
+
+/* x + y modulo 2^128, in an engine that has no carry between the words, or that stops at 2^128 - 1. */
+static u128 plus(u128 x, u128 y, int no_carry, int stops)
+{
+    if (no_carry)
+        return ((x >> 64) + (y >> 64)) << 64 | (uint64_t)(x + y);
+    return stops && x + y < x ? ~(u128)0 : x + y;
+}
+
+/* The sum of a range that so many cuts, one inside the other, have left. */
+static u128 by_halves(range terms, int cuts)
+{
+    uint64_t count = terms.end - terms.first;
+    if (terms.first >= terms.end || (WRONG(117) && cuts > 20))
+        return 0;
+    if (count == 1 || (WRONG(109) && count == 2))
+        return signed_term(&terms, terms.first);
+    range lower = terms, upper = terms;
+    lower.end = upper.first = WRONG(111) ? terms.end - 1 : terms.first + count / 2;
+    if (WRONG(110) && count % 2 == 1)
+        upper.first++;
+    u128 sum = by_halves(lower, cuts + 1);
+    return plus(sum, by_halves(upper, cuts + 1), WRONG(107), WRONG(108));
 }
 
 static void store_sum(uint8_t *at, u128 sum)
@@ -173,20 +216,103 @@ static u128 load_sum(const uint8_t *at)
     return (u128)load(at + 8, 8) << 64 | load(at, 8);
 }
 
-int64_t bbp_work(uint64_t p, uint64_t c, uint64_t row, uint64_t block, uint8_t *sum, size_t sum_len)
+/* The refusals of the working calls. The sum is lent for the wrong engine that writes it all the same. */
+static int64_t bad_ticket(uint64_t p, uint64_t c, uint64_t row, uint64_t block, uint8_t *sum, size_t sum_len)
 {
     if (length(sum_len) != 16 || unaligned(52, sum))
         return -1;
     if (bad_run(p, c))
         return -2;
+    if (row > 6 || block >= c) {
+        if (WRONG(41))
+            store_sum(sum, 0);
+        return -4;
+    }
+    return 0;
+}
+
+int64_t bbp_work(uint64_t p, uint64_t c, uint64_t row, uint64_t block, uint8_t *sum, size_t sum_len)
+{
     if (WRONG(15))
         row &= 255, block &= 65535;
-    if (WRONG(41))
-        store_sum(sum, 0);
-    if (row > 6 || block >= c)
+    int64_t bad = bad_ticket(p, c, row, block, sum, sum_len);
+    if (bad == 0)
+        store_sum(sum, ticket(p, c, row, block));
+    return bad;
+}
+
+/* Where a ticket is cut, and where wrong engines cut it. */
+static uint64_t cut_of(const range *terms, uint64_t c, uint64_t block)
+{
+    uint64_t middle = terms_of(terms->p) / 2;
+    if (WRONG(104))
+        return middle < terms->first ? terms->first : middle > terms->end ? terms->end : middle;
+    if (WRONG(118))
+        return first_of(terms->p, 2 * c, 2 * block + 1);
+    if (WRONG(119))
+        return (uint32_t)(terms->first + terms->end) / 2;
+    if (WRONG(120))
+        return (terms->end - terms->first) / 2;
+    if (WRONG(121))
+        return terms->end;
+    return (terms->first + terms->end + WRONG(103)) / 2;
+}
+
+static range half_range(uint64_t p, uint64_t c, uint64_t row, uint64_t block, int upper)
+{
+    range terms = ticket_range(p, c, row, block);
+    uint64_t cut = cut_of(&terms, c, block), after = cut < terms.end ? cut + 1 : cut;
+    if (WRONG(100) || WRONG(101))
+        upper = WRONG(101);
+    if (upper)
+        terms.first = WRONG(99) ? after : cut;
+    else
+        terms.end = WRONG(98) ? after : cut;
+    if (WRONG(102) && upper)
+        terms.origin = cut;
+    if (WRONG(112) && p > 1000000)
+        terms.end = terms.first;
+    return terms;
+}
+
+/* Refused by an engine that wants terms in a ticket before it cuts it. */
+static int wants_terms(uint64_t p, uint64_t c, uint64_t row, uint64_t block)
+{
+    const range terms = ticket_range(p, c, row, block);
+    return (WRONG(105) && terms.first == terms.end) || (WRONG(106) && terms.end - terms.first == 1);
+}
+
+static int64_t bad_half(uint64_t p, uint64_t c, uint64_t row, uint64_t block, uint8_t *sum, size_t sum_len)
+{
+    int64_t bad = bad_ticket(p, c, row, block, sum, sum_len);
+    if (WRONG(113) && bad == -2 && (row > 6 || block >= c))
         return -4;
-    store_sum(sum, ticket(p, c, row, block));
-    return 0;
+    if (WRONG(114) && bad == -1 && bad_run(p, c))
+        return -2;
+    return bad == 0 && wants_terms(p, c, row, block) ? -4 : bad;
+}
+
+static int64_t work_half(uint64_t p, uint64_t c, uint64_t row, uint64_t block, uint8_t *sum, size_t sum_len, int upper)
+{
+    if (WRONG(15))
+        row &= 255, block &= 65535;
+    int64_t bad = bad_half(p, c, row, block, sum, sum_len);
+    if (bad != 0)
+        return bad;
+    const range terms = half_range(p, c, row, block, upper);
+    if (!(WRONG(115) && terms.first == terms.end))
+        store_sum(sum, by_halves(terms, 0));
+    return WRONG(116) ? (int64_t)(terms.end - terms.first) : 0;
+}
+
+int64_t bbp_work_lower(uint64_t p, uint64_t c, uint64_t row, uint64_t block, uint8_t *sum, size_t sum_len)
+{
+    return work_half(p, c, row, block, sum, sum_len, 0);
+}
+
+int64_t bbp_work_upper(uint64_t p, uint64_t c, uint64_t row, uint64_t block, uint8_t *sum, size_t sum_len)
+{
+    return work_half(p, c, row, block, sum, sum_len, 1);
 }
 
 /* The ledger: 16 bytes of head, a sum of 16 bytes for each row, marks of 32 bytes for each row. */
@@ -263,14 +389,6 @@ static int bad_ledger(const uint8_t *ledger)
 static int other_run(const uint8_t *ledger, uint64_t p, uint64_t c)
 {
     return load(ledger, 8) != p || load(ledger + 8, 2) != c;
-}
-
-/* x + y modulo 2^128, in an engine that has no carry between the words, or that stops at 2^128 - 1. */
-static u128 plus(u128 x, u128 y, int no_carry, int stops)
-{
-    if (no_carry)
-        return ((x >> 64) + (y >> 64)) << 64 | (uint64_t)(x + y);
-    return stops && x + y < x ? ~(u128)0 : x + y;
 }
 
 /* A ticket's sum into the sum of its row. */

@@ -1,0 +1,168 @@
+/*
+ * The halves of a ticket beside the whole ticket, in the engine's own calls
+ * (document 02, slip 3): answers, sums, the place of the cut, and the stack.
+ */
+#include "working.h"
+
+#include <inttypes.h>
+#include <pthread.h>
+#include <string.h>
+#include <unistd.h>
+
+/* How many tickets of each kind had their halves compared. */
+static struct {
+    uint64_t empty, one_term, odd, even, odd_cut, even_cut;
+} seen;
+
+static void count_kind(void)
+{
+    uint64_t first = ref_block_first(tried.p, tried.c, tried.block), cut = ref_block_cut(tried.p, tried.c, tried.block);
+    uint64_t terms = ref_block_first(tried.p, tried.c, tried.block + 1) - first;
+    seen.empty += terms == 0;
+    seen.one_term += terms == 1;
+    seen.odd += terms > 1 && terms % 2 == 1;
+    seen.even += terms > 1 && terms % 2 == 0;
+    seen.odd_cut += terms > 1 && cut % 2 == 1;
+    seen.even_cut += terms > 1 && cut % 2 == 0;
+}
+
+static void require_kinds(void)
+{
+    CHECK(seen.empty > 0 && seen.one_term > 0, "%" PRIu64 " empty tickets, %" PRIu64 " of one term", seen.empty, seen.one_term);
+    CHECK(seen.odd > 0 && seen.even > 0, "%" PRIu64 " tickets of odd length, %" PRIu64 " of even", seen.odd, seen.even);
+    CHECK(seen.odd_cut > 0 && seen.even_cut > 0, "%" PRIu64 " odd cuts, %" PRIu64 " even", seen.odd_cut, seen.even_cut);
+}
+
+static int64_t call_with(work_call *call, int slot, const uint8_t *found, const uint8_t **sum)
+{
+    uint8_t *at = lend(slot, found, tried.sum_len);
+    *sum = at;
+    return call(tried.p, tried.c, tried.row, tried.block, at, tried.sum_len);
+}
+
+/* The three calls answer alike. Refused, they change nothing; else the sums of the halves add up to the ticket's. */
+static int64_t compare_with_whole(void)
+{
+    uint8_t found[96];
+    const uint8_t *whole, *lower, *upper;
+    any_bytes(found, sizeof found);
+    int64_t answer = call_with(bbp_work, 0, found, &whole);
+    int64_t of_lower = call_with(bbp_work_lower, 1, found, &lower), of_upper = call_with(bbp_work_upper, 2, found, &upper);
+    CHECK(of_lower == answer && of_upper == answer,
+          "p %" PRIu64 " C %" PRIu64 " row %" PRIu64 " block %" PRIu64 " length %zu: answers %" PRId64 ", %" PRId64
+          " of the lower half, %" PRId64 " of the upper", tried.p, tried.c, tried.row, tried.block, tried.sum_len, answer,
+          of_lower, of_upper);
+    for (int slot = 0; slot < 3 && answer != 0; slot++)
+        expect_kept(slot, "a refused call, the sum");
+    if (answer != 0)
+        return answer;
+    CHECK((ref_u128)(ref_load_sum(lower) + ref_load_sum(upper)) == ref_load_sum(whole),
+          "p %" PRIu64 " C %" PRIu64 " row %" PRIu64 " block %" PRIu64 ": the halves do not add up to the ticket", tried.p,
+          tried.c, tried.row, tried.block);
+    count_kind();
+    return answer;
+}
+
+static ref_u128 sum_by(work_call *call, uint64_t p, uint64_t c, uint64_t row, uint64_t block)
+{
+    uint8_t sum[16];
+    CHECK(call(p, c, row, block, sum, 16) == 0, "p %" PRIu64 " C %" PRIu64 " is refused", p, c);
+    return ref_load_sum(sum);
+}
+
+/* The terms one by one: where C is the number of terms, block k has term k alone. */
+static ref_u128 term_by_term(uint64_t p, uint64_t row, uint64_t first, uint64_t end)
+{
+    ref_u128 sum = 0;
+    for (uint64_t k = first; k < end; k++)
+        sum += sum_by(bbp_work, p, ref_term_count(p), row, k);
+    return sum;
+}
+
+static void compare_with_terms(uint64_t p, uint64_t c, uint64_t row, uint64_t block)
+{
+    uint64_t first = ref_block_first(p, c, block), cut = ref_block_cut(p, c, block), end = ref_block_first(p, c, block + 1);
+    CHECK(sum_by(bbp_work_lower, p, c, row, block) == term_by_term(p, row, first, cut),
+          "p %" PRIu64 " C %" PRIu64 " row %" PRIu64 ": terms %" PRIu64 " up to the cut", p, c, row, first);
+    CHECK(sum_by(bbp_work_upper, p, c, row, block) == term_by_term(p, row, cut, end),
+          "p %" PRIu64 " C %" PRIu64 " row %" PRIu64 ": terms from the cut up to %" PRIu64, p, c, row, end);
+}
+
+/* Runs of at most 256 terms in a row. */
+static void small_halves(void)
+{
+    static const uint64_t positions[] = {1, 2, 3, 4, 5, 17, 100, 600}, counts[] = {1, 2, 3, 5, 7, 14, 100, 256};
+    for (int i = 0; i < 8; i++)
+        for (int j = 0; j < 8; j++)
+            for (uint64_t row = 0; row < 7; row++)
+                for (uint64_t block = 0; block < counts[j]; block += counts[j] < 20 ? 1 : 1 + below(20))
+                    compare_with_terms(positions[i], counts[j], row, block);
+}
+
+/*
+ * A small stack. A recursion by halves makes at most 58 cuts one inside the
+ * other, at p = 2^60, C = 1. One whose depth grows with the number of terms has
+ * no room here for some thousand of them.
+ */
+enum { STACK = 65536, FAR = 10000000 };
+
+static void on_small_stack(void *(*call)(void *))
+{
+    pthread_attr_t attributes;
+    pthread_t thread;
+    if (pthread_attr_init(&attributes) != 0 || pthread_attr_setstacksize(&attributes, STACK) != 0 ||
+        pthread_create(&thread, &attributes, call, NULL) != 0 || pthread_join(thread, NULL) != 0)
+        _exit(2);
+}
+
+static uint8_t far_sums[2][16];
+
+static void *work_far_halves(void *unused)
+{
+    bbp_work_lower(FAR, 1, 3, 0, far_sums[0], 16);
+    bbp_work_upper(FAR, 1, 3, 0, far_sums[1], 16);
+    return unused;
+}
+
+/* Two million terms in a half. */
+static void far_halves(void)
+{
+    on_small_stack(work_far_halves);
+    CHECK((ref_u128)(ref_load_sum(far_sums[0]) + ref_load_sum(far_sums[1])) == sum_by(bbp_work, FAR, 1, 3, 0),
+          "the halves at p = 10^7 do not add up to the ticket");
+}
+
+static void *work_largest_lower(void *unused)
+{
+    bbp_work_lower(BBP_MAX_POSITION, 1, 0, 0, far_sums[0], 16);
+    return unused;
+}
+
+static void *work_largest_upper(void *unused)
+{
+    bbp_work_upper(BBP_MAX_POSITION, 1, 0, 0, far_sums[1], 16);
+    return unused;
+}
+
+/* The call does not come back. Of its greatest depth it lacks one cut at most when it comes to its first term, at once. */
+static void largest_lower(void)
+{
+    on_small_stack(work_largest_lower);
+}
+
+static void largest_upper(void)
+{
+    on_small_stack(work_largest_upper);
+}
+
+int main(int argc, char **argv)
+{
+    start("halves", argc, argv);
+    try_tickets(compare_with_whole);
+    require_kinds();
+    small_halves();
+    CHECK(comes_back(far_halves), "the halves at p = 10^7, C = 1 on a stack of %d bytes", STACK);
+    CHECK(still_working(largest_lower), "the lower half at p = 2^60, C = 1 on a stack of %d bytes", STACK);
+    CHECK(still_working(largest_upper), "the upper half at p = 2^60, C = 1 on a stack of %d bytes", STACK);
+    return finish();
+}

@@ -1,0 +1,169 @@
+#include "working.h"
+
+#include <inttypes.h>
+#include <stdlib.h>
+
+struct arguments tried;
+
+static void prepare(void)
+{
+    int far = below(16) == 0;
+    tried.p = any_position_upto(far ? 300000 : 2000);
+    tried.c = far ? 250 + below(7) : any_blocks();
+    tried.row = below(7);
+    tried.block = below(8) == 0 ? tried.c - 1 : below(tried.c);
+    tried.sum_len = 16;
+}
+
+static int damage(int kind)
+{
+    switch (kind) {
+    case 0: tried.sum_len = wrong_size(16); return 1;
+    case 1: tried.sum_len = 0; return 1;
+    case 2: tried.p = bad_position(); return 2;
+    case 3: tried.c = bad_blocks(); return 2;
+    case 4: tried.row = 7; return 4;
+    case 5: tried.row = wide_number(below(7)); return 4;
+    case 6: tried.block = tried.c; return 4;
+    case 7: tried.block = wide_number(below(256)); return 4;
+    default: tried.block = UINT64_MAX - below(2); return 4;
+    }
+}
+
+/* The comparison in hand, which counts the refusals that apply. */
+static int64_t (*compare_tried)(void);
+
+static int64_t compare(void)
+{
+    met(ref_work_refusals(tried.p, tried.c, tried.row, tried.block, tried.sum_len));
+    return compare_tried();
+}
+
+static void compare_ticket(uint64_t p, uint64_t c, uint64_t row, uint64_t block)
+{
+    tried = (struct arguments){p, c, row, block, 16};
+    CHECK(compare() == 0, "p %" PRIu64 " C %" PRIu64 " row %" PRIu64 " block %" PRIu64 " is refused", p, c, row, block);
+}
+
+/*
+ * Every block of every row at the smallest positions: E at its corners, N = 1,
+ * N = 7, empty blocks, blocks of one term and of two.
+ */
+static void small_runs(void)
+{
+    static const uint64_t counts[] = {1, 3, 7, 14, 15, 255, 256};
+    for (uint64_t p = 1; p <= 40; p++)
+        for (uint64_t row = 0; row < 7; row++)
+            for (int i = 0; i < 7; i++)
+                for (uint64_t block = 0; block < counts[i]; block += p < 4 || counts[i] < 20 ? 1 : 1 + below(40))
+                    compare_ticket(p, counts[i], row, block);
+}
+
+static void far_tickets(void)
+{
+    for (uint64_t row = 0; row < 7; row++) {
+        compare_ticket(1000000, 256, row, below(256));
+        compare_ticket(1000000, 256, row, 255);
+        compare_ticket(999999, 255, row, 0);
+    }
+}
+
+static const struct {
+    const char *what;
+    int64_t answer;
+    struct arguments arguments;
+} cases[] = {
+    {"sum of 0 bytes", -1, {1, 1, 0, 0, 0}},
+    {"sum of 15 bytes", -1, {1, 1, 0, 0, 15}},
+    {"sum of 17 bytes", -1, {1, 1, 0, 0, 17}},
+    {"sum of 15 bytes, p 0", -1, {0, 1, 0, 0, 15}},
+    {"sum of 17 bytes, row 7", -1, {1, 1, 7, 0, 17}},
+    {"p 0", -2, {0, 1, 0, 0, 16}},
+    {"p 2^60 + 1", -2, {BBP_MAX_POSITION + 1, 1, 0, 0, 16}},
+    {"p 2^64 - 1", -2, {UINT64_MAX, 1, 0, 0, 16}},
+    {"C 0", -2, {1, 0, 0, 0, 16}},
+    {"C 257", -2, {1, 257, 0, 0, 16}},
+    {"C 65,537", -2, {1, 65537, 0, 0, 16}},
+    {"p 0, row 7", -2, {0, 1, 7, 0, 16}},
+    {"C 257, block 257", -2, {1, 257, 0, 257, 16}},
+    {"C 1, block 1", -4, {1, 1, 0, 1, 16}},
+    {"C 256, block 256", -4, {1, 256, 6, 256, 16}},
+    {"row 7", -4, {1, 1, 7, 0, 16}},
+    {"row 256", -4, {1, 1, 256, 0, 16}},
+    {"row 2^64 - 1", -4, {1, 1, UINT64_MAX, 0, 16}},
+    {"block 2^32", -4, {1, 1, 0, UINT64_C(1) << 32, 16}},
+    {"p 2^60, row 7", -4, {BBP_MAX_POSITION, 256, 7, 0, 16}},
+    {"p 2^60, row 7, block 255", -4, {BBP_MAX_POSITION, 256, 7, 255, 16}},
+    {"p 2^60, block 256", -4, {BBP_MAX_POSITION, 256, 0, 256, 16}},
+    {"p 2^60, row 6, block 256", -4, {BBP_MAX_POSITION, 256, 6, 256, 16}},
+    {"p 1, C 1, row 0", 0, {1, 1, 0, 0, 16}},
+    {"p 2, C 1, row 6", 0, {2, 1, 6, 0, 16}},
+    {"p 1, C 256, row 6, block 255", 0, {1, 256, 6, 255, 16}},
+};
+
+static void try_cases(void)
+{
+    for (size_t i = 0; i < sizeof cases / sizeof cases[0]; i++) {
+        tried = cases[i].arguments;
+        CHECK(compare() == cases[i].answer, "%s", cases[i].what);
+    }
+}
+
+void try_tickets(int64_t (*compare_case)(void))
+{
+    static const struct suite suite = {prepare, damage, 9, compare};
+    compare_tried = compare_case;
+    try_cases();
+    small_runs();
+    far_tickets();
+    run_suite(&suite);
+    require_met("1 2 4 12 14 24");
+}
+
+/* One call. */
+
+static struct working tested;
+
+static int64_t compare_with_reference(void)
+{
+    uint8_t found[96];
+    any_bytes(found, sizeof found);
+    uint8_t *wanted = copy_of(found, tried.sum_len);
+    int64_t wanted_answer = tested.reference(tried.p, tried.c, tried.row, tried.block, wanted, tried.sum_len);
+    uint8_t *sum = lend(0, found, tried.sum_len);
+    int64_t answer = tested.engine(tried.p, tried.c, tried.row, tried.block, sum, tried.sum_len);
+    CHECK(answer == wanted_answer,
+          "p %" PRIu64 " C %" PRIu64 " row %" PRIu64 " block %" PRIu64 " length %zu: answer %" PRId64 ", not %" PRId64,
+          tried.p, tried.c, tried.row, tried.block, tried.sum_len, answer, wanted_answer);
+    expect(0, wanted, "the sum");
+    free(wanted);
+    return answer;
+}
+
+static void null_and_huge_examples(void)
+{
+    CHECK(tested.engine(1, 1, 0, 0, NULL, 0) == -1, "an empty sum");
+    CHECK(tested.engine(1, 1, 0, 0, lend_huge(), huge_length(16)) == -1, "a sum of 2^32 + 16 bytes");
+    expect_huge_kept();
+}
+
+/*
+ * At p = 2^60 a block of C = 256 has 1.8 * 10^15 terms: years of work. Block 39
+ * ends at 40 * K / 256, and 40 * K, of 65 bits, has 544 in its lower 64: an
+ * engine that cuts it there finds the block empty and comes back at once.
+ */
+static void work_at_the_largest_position(void)
+{
+    uint8_t sum[16];
+    tested.engine(BBP_MAX_POSITION, 256, 0, 39, sum, 16);
+}
+
+int test_working(const struct working *call, int argc, char **argv)
+{
+    tested = *call;
+    start(call->name, argc, argv);
+    null_and_huge_examples();
+    try_tickets(compare_with_reference);
+    CHECK(still_working(work_at_the_largest_position), "block 39 of C = 256 at p = 2^60 comes back at once");
+    return finish();
+}
