@@ -1,9 +1,9 @@
 /*
  * Times of the engine, in processor time, as minima of several repetitions.
- * Working is compared with the plain C of bench/plain.c on the same tickets,
- * and with the engine's own halves of them, turn by turn. Figures say nothing
- * about whether answers are right; the sums are compared all the same, so that
- * equal work is timed. Last comes the stack that a half takes.
+ * Working is compared with the plain C of bench/plain.c, and with the engine's
+ * own halves, ticket by ticket and turn by turn. Figures say nothing about
+ * whether answers are right; the sums are compared all the same, so that equal
+ * work is timed. Last comes the stack that a half takes.
  */
 #define _POSIX_C_SOURCE 200809L
 
@@ -53,36 +53,55 @@ static void engine_halves(uint64_t p, uint64_t c, uint64_t row, uint64_t block, 
 
 typedef void work(uint64_t p, uint64_t c, uint64_t row, uint64_t block, uint8_t sum[16]);
 
-/* The time of a run's sample of tickets; their sums go one after the other into `sums`. */
-static double time_tickets(work *ticket, int run, uint8_t *sums)
+enum { ENGINE, PLAIN, HALVES, WAYS };
+static const struct {
+    work *work;
+    const char *name;
+} ways[WAYS] = {{engine_work, "the engine"}, {plain_work, "the plain C"}, {engine_halves, "the engine's halves"}};
+
+/* Works one ticket in each way; keeps the least time of each, and wants one sum of all. */
+static void time_ticket(int run, uint64_t row, uint64_t block, double times[WAYS])
 {
-    double began = seconds();
-    for (uint64_t row = 0; row < BBP_ROWS; row++)
-        for (uint64_t block = runs[run].first; block < BLOCKS; block += runs[run].step, sums += 16)
-            ticket(runs[run].p, BLOCKS, row, block, sums);
-    return seconds() - began;
+    uint8_t sums[WAYS][16];
+    for (int way = 0; way < WAYS; way++) {
+        double began = seconds();
+        ways[way].work(runs[run].p, BLOCKS, row, block, sums[way]);
+        times[way] = least(times[way], seconds() - began);
+        if (memcmp(sums[way], sums[ENGINE], 16) != 0) {
+            fprintf(stderr, "bench: the engine and %s differ\n", ways[way].name);
+            exit(1);
+        }
+    }
+}
+
+/* The least times of the tickets of a run's sample, added up; gives how many tickets there are in a row. */
+static uint64_t time_tickets(int run, double totals[WAYS])
+{
+    static double times[BBP_ROWS * BLOCKS][WAYS];
+    uint64_t in_a_row = (BLOCKS - runs[run].first + runs[run].step - 1) / runs[run].step;
+    for (uint64_t i = 0; i < BBP_ROWS * in_a_row; i++)
+        for (int way = 0; way < WAYS; way++)
+            times[i][way] = 1e9;
+    for (int repetition = 0; repetition < REPETITIONS; repetition++)
+        for (uint64_t i = 0; i < BBP_ROWS * in_a_row; i++)
+            time_ticket(run, i / in_a_row, runs[run].first + i % in_a_row * runs[run].step, times[i]);
+    for (int way = 0; way < WAYS; way++)
+        totals[way] = 0;
+    for (uint64_t i = 0; i < BBP_ROWS * in_a_row; i++)
+        for (int way = 0; way < WAYS; way++)
+            totals[way] += times[i][way];
+    return in_a_row;
 }
 
 /* Prints the ratios and gives the engine's time for the whole run. */
 static double compare_work(int run)
 {
-    static uint8_t sums[3][BBP_ROWS * BLOCKS * 16];
-    double engine = 1e9, plain = 1e9, halves = 1e9;
-    for (int i = 0; i < REPETITIONS; i++) {
-        engine = least(engine, time_tickets(engine_work, run, sums[0]));
-        plain = least(plain, time_tickets(plain_work, run, sums[1]));
-        halves = least(halves, time_tickets(engine_halves, run, sums[2]));
-    }
-    for (int i = 1; i < 3; i++)
-        if (memcmp(sums[0], sums[i], sizeof sums[0]) != 0) {
-            fprintf(stderr, "bench: the engine and %s differ\n", i == 1 ? "the plain C" : "its halves");
-            exit(1);
-        }
-    uint64_t blocks = (BLOCKS - runs[run].first + runs[run].step - 1) / runs[run].step;
-    double whole = engine * BLOCKS / (double)blocks;
+    double times[WAYS];
+    uint64_t in_a_row = time_tickets(run, times);
+    double whole = times[ENGINE] * BLOCKS / (double)in_a_row;
     printf("p = %-10" PRIu64 " engine %.3f s, plain C %.3f s, engine / plain C %.3f; whole run about %.1f s\n", runs[run].p,
-           engine, plain, engine / plain, whole);
-    printf("p = %-10" PRIu64 " halves %.3f s, halves / whole %.3f\n", runs[run].p, halves, halves / engine);
+           times[ENGINE], times[PLAIN], times[ENGINE] / times[PLAIN], whole);
+    printf("p = %-10" PRIu64 " halves %.3f s, halves / whole %.3f\n", runs[run].p, times[HALVES], times[HALVES] / times[ENGINE]);
     return whole;
 }
 
