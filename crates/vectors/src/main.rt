@@ -265,6 +265,39 @@ fn refusals() {
     show::ticket(1, 1, 7, 0);
 }
 
+// Halves: of whole rows, of empty blocks and of one term, and at other positions.
+fn halves() {
+    show::halves(1, 1, 0, 0);
+    show::halves(1, 1, 2, 0);
+    show::halves(1, 1, 6, 0);
+    show::halves(1, 3, 0, 1);
+    show::halves(1, 3, 5, 2);
+    show::halves(1, 256, 0, 0);
+    show::halves(1, 256, 0, 18);
+    show::halves(1, 256, 6, 255);
+    show::halves(3, 1, 0, 0);
+    show::halves(3, 7, 0, 6);
+    show::halves(4, 1, 0, 0);
+    show::halves(4, 7, 0, 6);
+    show::halves(17, 1, 0, 0);
+    show::halves(17, 7, 0, 6);
+    show::halves(100, 1, 0, 0);
+    show::halves(100, 7, 0, 6);
+    show::halves(1000, 1, 0, 0);
+    show::halves(1000, 7, 0, 3);
+    show::halves(12345, 1, 0, 0);
+    show::halves(12345, 7, 0, 3);
+    show::halves(100000, 256, 0, 0);
+    show::halves(100000, 256, 3, 17);
+}
+
+fn refused_halves() {
+    show::halves(0, 1, 0, 0);
+    show::halves(1, 257, 7, 0);
+    show::halves(1, 1, 0, 1);
+    show::halves(1, 1, 7, 0);
+}
+
 fn main() {
     figures();
     counts();
@@ -280,4 +313,6 @@ fn main() {
     whole_rows();
     tickets();
     refusals();
+    halves();
+    refused_halves();
 }

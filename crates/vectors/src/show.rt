@@ -137,13 +137,23 @@ pub fn quotient(e: u64, n: u64) {
     text(b"\n");
 }
 
-// The 16 bytes of a ticket's sum, or the refusal.
-pub fn ticket(p: u64, c: u64, row: u64, block: u64) {
-    text(b"ticket");
+fn part(name: &[u8], part: Part, p: u64, c: u64, row: u64, block: u64) {
+    text(name);
     number(p);
     number(c);
     number(row);
     number(block);
-    sum_of(p, c, row, block);
+    sum_of(part, p, c, row, block);
     text(b"\n");
+}
+
+// The 16 bytes of a ticket's sum, or the refusal.
+pub fn ticket(p: u64, c: u64, row: u64, block: u64) {
+    part(b"ticket", Part::Whole, p, c, row, block);
+}
+
+// The same of its halves, the lower one first.
+pub fn halves(p: u64, c: u64, row: u64, block: u64) {
+    part(b"lower", Part::Lower, p, c, row, block);
+    part(b"upper", Part::Upper, p, c, row, block);
 }
