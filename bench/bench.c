@@ -19,7 +19,7 @@
 #include "plain.h"
 #include "program.h"
 
-enum { BLOCKS = 256, REPETITIONS = 7, LEDGERS = 64, STACK = 1 << 20, UNTOUCHED = 0xA5 };
+enum { BLOCKS = 256, REPETITIONS = 15, LEDGERS = 64, STACK = 1 << 20, UNTOUCHED = 0xA5 };
 
 /* Every `step`-th block of each row, so that a repetition takes some tenths of a second. */
 static const struct {
