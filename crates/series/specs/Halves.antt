@@ -1,4 +1,4 @@
--- A range of terms worked as its two halves, each again by halves, down to one term or none. Document 02, slip 3.
+-- A range of terms cut in the middle, and each part of it again, until no part has more than one term. Document 02, slip 3.
 use mathlib.Core.Path.{_≡_}
 use mathlib.Core.Bool.{cond}
 use Prim.Native.Nat.{ℕ, zero, suc, _+_, _-_, _/_, _%_, _^_, _≤_}
@@ -27,8 +27,8 @@ byHalves F p r (suc depth) first count =
     cond (leb count 1) (oneOrNone F p r first count)
     ((byHalves F p r depth first (count / 2) + byHalves F p r depth (first + count / 2) (count - count / 2)) % modulus)
 
--- The law, for every formula, row and range: by halves gives the sum that first-to-last order gives, and this is the range's signed
--- sum. Up to 2 ^ depth terms take no more than `depth` cuts one inside the other.
+-- The law, for every formula, row and range: adding by halves comes to the same as adding from the first term to the last, and both to the
+-- range's signed sum. Up to 2 ^ depth terms take no more than `depth` cuts one inside the other.
 pub record SameSum : Type 0 where
   pub by-halves : (F : Formula) (p : ℕ) (r : Row) (first count depth : ℕ) → count ≤ 2 ^ depth
       → byHalves F p r depth first count ≡ firstToLast F p r first count

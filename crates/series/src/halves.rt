@@ -1,4 +1,4 @@
-// The signed sum of a range of terms by halves: the range is cut into two, each again, down to one term or none.
+// The signed sum of a range of terms by halves: the range is cut in two, and each part again, until a part has one term or none.
 use crate::Series;
 use crate::rows::Row;
 use words::Wide;

@@ -30,8 +30,8 @@ module _ (f : Series) (p C row block K first end : ℕ) (k : K ≡ termCount (fo
     within : end ≤ termCount (formulaOf f) p
     within = rw (b, ← k) (bound-le K C (block + 1) (omega (arith, ticket-block _ C row block t)))
 
-    cut-fits : first + end < 2 ^ 64
-    cut-fits = omega (arith, rising, within, count-small f p (position (formulaOf f) p C r))
+    small : (first < 2 ^ 63) × (end < 2 ^ 63)
+    small = let h = count-small f p (position (formulaOf f) p C r) in (omega (arith, rising, within), omega (arith, within))
 
     -- a range of the block's terms
     ranged : (from to : ℕ) → (first ≤ end → (from ≤ to) × (to ≤ end))
@@ -74,7 +74,8 @@ bound-requires-2 c κs =
 add-cut : tie.Need-add-cut
 add-cut c =
     let s = c .before .before .before in
-    record { fits = cut-fits (s .args .f) _ _ _ _ _ _ _ (c .before .before .term-count .ensures) (c .before .bound .ensures) (c .bound2 .ensures) (s .pre .0) (s .pre .1) }
+    let l = small (s .args .f) _ _ _ _ _ _ _ (c .before .before .term-count .ensures) (c .before .bound .ensures) (c .bound2 .ensures) (s .pre .0) (s .pre .1) in
+    record { fits = omega (arith, l .0, l .1) }
 
 enum-told : tie.Need-enum-told
 enum-told c = search needs
