@@ -50,6 +50,10 @@ residue-both m a b a′ b′ h =
 
 -- ---- a row's terms
 
+pub range-sum-lt : (F : Formula) (p : ℕ) (r : Row) (first count : ℕ) → rangeSum F p r first count < modulus
+unfolding rangeSum
+range-sum-lt F p r first count = residue-lt modulus _ (lit< tt)
+
 -- a range and the one after it
 pub split : (F : Formula) (p : ℕ) (r : Row) (first c d : ℕ)
     → (rangeSum F p r first c + rangeSum F p r (first + c) d) % modulus ≡ rangeSum F p r first (c + d)

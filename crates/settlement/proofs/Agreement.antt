@@ -10,8 +10,9 @@ use lib.IntN.{subℕ}
 use lib.ListN.{length}
 use lib.Pow.{pow-pos}
 use Rattle.algebra.specs.Whole.{residue}
-use Rattle.algebra.proofs.Integers.{residue-lt, residue-is, diff-sub, turns, back}
+use Rattle.algebra.proofs.Integers.{residue-is, diff-sub, turns, back}
 use Rattle.series.specs.Series.{Formula, plus, minus, modulus, rangeSum}
+use Rattle.series.proofs.RangeSums.{range-sum-lt}
 use Rattle.run.specs.Refusal.{refusal, answer}
 use Rattle.run.specs.Run.{limitsOf, inRange, isTicket, ticketSum}
 use Rattle.ticket.specs.Parts.{partSum}
@@ -32,8 +33,8 @@ residue-back m a b h =
 
 module _ (F : Formula) (p C row block : ℕ) where
   pub ticket-sum-lt : ticketSum F p C row block < modulus
-  unfolding ticketSum rangeSum
-  ticket-sum-lt = residue-lt modulus _ (pow-pos 128)
+  unfolding ticketSum
+  ticket-sum-lt = range-sum-lt F p _ _ _
 
   signed : (ticketSum F p C row block + sideOf F minus p C row block) % modulus ≡ sideOf F plus p C row block % modulus
   unfolding ticketSum rangeSum sideOf

@@ -11,15 +11,13 @@ use native.Mathlib.Omega.{arith}
 use borrow.Author.Tests.{not-false}
 use lib.Dec.{lit<}
 use lib.IntN.{pos}
-use lib.Pow.{pow-pos}
-use Rattle.algebra.proofs.Integers.{residue-lt}
 use Rattle.words.specs.Bytes.{valueOf}
 use Rattle.words.proofs.Bytes.{value-bytes}
 use Rattle.series.specs.Series.{Formula, Row, rowAt, termCount, rangeSum, modulus}
 use Rattle.series.specs.Halves.{byHalves}
 use Rattle.series.specs.Bellard.{bellard}
 use Rattle.series.proofs.Numbers.{count-grows}
-use Rattle.series.proofs.RangeSums.{split}
+use Rattle.series.proofs.RangeSums.{range-sum-lt, split}
 use Rattle.series.proofs.ByHalves.{same-sum}
 use Rattle.run.specs.Run.{limitsOf, inRange, isTicket, bound, ticketSum}
 use Rattle.run.proofs.Answering.{passes, changed, not-refused}
@@ -65,10 +63,10 @@ module _ (F : Formula) (p C row block : ℕ) where
         (omega (arith, l, k, g, d, h), omega (arith, l, k, g, d, h))
 
   part-sum-lt : (part : Part) → partSum F part p C row block < modulus
-  unfolding partSum ticketSum rangeSum
-  part-sum-lt Whole = residue-lt modulus _ (pow-pos 128)
-  part-sum-lt Lower = residue-lt modulus _ (pow-pos 128)
-  part-sum-lt Upper = residue-lt modulus _ (pow-pos 128)
+  unfolding partSum ticketSum
+  part-sum-lt Whole = range-sum-lt F p _ _ _
+  part-sum-lt Lower = range-sum-lt F p _ _ _
+  part-sum-lt Upper = range-sum-lt F p _ _ _
 
   -- where a call answers 0, it was handed a ticket, and left the bytes of the part's sum
   taken : (out : List ℕ) → workAnswer F p C row block out ≡ pos 0

@@ -1,9 +1,13 @@
--- A number of two words: of two words 0 it is 0, and of any two below 2 ^ 128.
+-- A number of two words: that of the code's struct; of two words 0 it is 0, and of any two below 2 ^ 128.
 -- Assumes nothing.
 use mathlib.Core.Path.{_≡_, refl}
 use Prim.Native.Nat.{ℕ, _^_, _<_}
 use lib.Arith.{digits-lt}
 use Rattle.words.specs.Words.{joined}
+use Rattle.words.specs.declared.Wide.{Wide}
+
+abbrev pub value : Wide → ℕ
+value x = joined (x .hi) (x .lo)
 
 pub joined-zero : joined 0 0 ≡ 0
 unfolding joined

@@ -7,8 +7,7 @@ use native.Mathlib.Omega.{arith}
 use borrow.Author.Needs.{needs}
 use borrow.Fn.Kinds.{In}
 use borrow.Fn.PlainCycle.{Measures, is, falls, and}
-use Rattle.words.specs.Words.{joined}
-use Rattle.words.specs.declared.Wide.{Wide}
+use Rattle.words.proofs.Joined.{value}
 use Rattle.words.proofs.add.Reads as add-reads
 use Rattle.series.specs.Series.{modulus}
 use Rattle.series.proofs.Numbers.{count-small}
@@ -19,9 +18,6 @@ use Rattle.series.proofs.halves.by_halves.Kinds as by-halves-kinds
 use Rattle.series.proofs.halves.+by_halves.Lts-by_halves as lts
 use Rattle.series.proofs.halves.+by_halves.{statement}
 use Rattle.series.proofs.halves.+by_halves.Tie.{close}
-
-abbrev value : Wide → ℕ
-value x = joined (x .hi) (x .lo)
 
 abbrev measure : Measures 0 by-halves-kinds.ps ℕ
 measure κs a = a .1 .1 .1 .1 .0

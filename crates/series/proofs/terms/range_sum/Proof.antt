@@ -7,7 +7,7 @@ use native.Mathlib.Omega.{arith}
 use borrow.Author.Needs.{needs}
 use Rattle.words.specs.Words.{joined}
 use Rattle.words.specs.declared.Wide.{Wide}
-use Rattle.words.proofs.Joined.{joined-zero, joined-lt}
+use Rattle.words.proofs.Joined.{value, joined-zero, joined-lt}
 use Rattle.series.specs.Series.{Row, modulus, rangeSum}
 use Rattle.series.specs.Fitting.{Fitting}
 use Rattle.series.specs.Names.{formulaOf, rowOf}
@@ -22,9 +22,6 @@ Inv-loop f p row first end numbers sum₀ k₀ sum k =
 
 abbrev μ-loop : tie.MeasureT-loop
 μ-loop f p row first end numbers sum₀ k₀ sum k = end - k
-
-abbrev value : Wide → ℕ
-value x = joined (x .hi) (x .lo)
 
 row-at-requires : tie.Need-row-at-requires Inv-loop μ-loop
 row-at-requires c κs = search needs
