@@ -1,14 +1,41 @@
 /*
- * bbp.h - hexadecimal digits of pi at far positions, by Bellard's formula.
+ * bbp.h - hexadecimal digits of pi at far positions, by Bellard's formula, and
+ * by an older formula to check them.
  *
- * A run is a position p (1 to 2^60, the first digit after the point being
- * position 1) and a block count C (1 to 256). The seven rows of the formula
- * are cut into C blocks each; one block of one row is a ticket. Tickets are
- * worked one by one, here or by a supplier, and posted to the run's ledger,
- * singly or as a sheet. A large ticket can be worked by two machines, a half
- * each, and posted with the sum of both. A ledger with every ticket posted is
- * closed: that gives the hexadecimal digits of pi from position p on that the
- * run settles.
+ * A run is a position p (the first digit after the point being position 1)
+ * and a block count C (1 to 256). The rows of its formula are cut into C blocks
+ * each; one block of one row is a ticket. Tickets are worked one by one, here
+ * or by a supplier, and posted to the run's ledger, singly or as a sheet. A
+ * large ticket can be worked by two machines, a half each, and posted with the
+ * sum of both. A ledger with every ticket posted is closed: that gives the
+ * hexadecimal digits of pi from position p on that the run settles.
+ *
+ * There are two kinds of runs, each with nine calls of its own, which do the
+ * same over another formula:
+ *
+ *                                  Bellard's run   check run
+ *   calls and constants            bbp_, BBP_      bbp_check_, BBP_CHECK_
+ *   formula of document 001        equation (4)    equation (3)
+ *   positions                      1 to 2^60       1 to 2^59
+ *   rows                           0 to 6          0 to 3
+ *   bytes of a ledger              352             208
+ *   bytes of a list, at most       3,584           2,048
+ *   bytes of a sheet, at most      35,856          20,496
+ *   terms of a ticket, about       0.4 p / C       p / C
+ *
+ * What this file says of a call holds for both its names, each with the numbers
+ * of its own column; constants without a form BBP_CHECK_ are those of both.
+ *
+ * A check run is one more computation of the same digits, by another formula:
+ * where the two closings agree, an error would have had to happen twice, alike.
+ * Over the positions of both, compare as many digits as the shorter one has.
+ *
+ * Keep the two kinds apart. A ledger is of one kind by its size. A sheet does
+ * not name its formula: one that a check run has written is taken by
+ * bbp_sheet_read, and by bbp_sheet_post onto a Bellard ledger of the same p and
+ * C, without a refusal; and a sheet of a Bellard run with rows 0 to 3 alone is
+ * taken by the check calls. The ledger then holds wrong sums, and its digits
+ * are wrong or are refused. Nor does a sum in 16 bytes name its formula.
  *
  * docs/FORMATS.md, installed as share/doc/bbp/FORMATS.md, gives the bytes of a
  * ledger, a list and a sheet, the arithmetic, and each call's refusals in order.
@@ -40,7 +67,7 @@ extern "C" {
 
 /* The version. BBP_VERSION grows from each version to the next, so that #if can compare it. */
 #define BBP_VERSION_MAJOR 2
-#define BBP_VERSION_MINOR 1
+#define BBP_VERSION_MINOR 2
 #define BBP_VERSION_PATCH 0
 #define BBP_VERSION (1000000 * BBP_VERSION_MAJOR + 1000 * BBP_VERSION_MINOR + BBP_VERSION_PATCH)
 #define BBP_VERSION_STRING \
@@ -48,28 +75,36 @@ extern "C" {
 #define BBP_QUOTED(number) BBP_QUOTED_AS_IT_STANDS(number)
 #define BBP_QUOTED_AS_IT_STANDS(text) #text
 
-/* The largest position, 2^60, and the largest block count. Rows are 0 to 6, blocks 0 to C - 1. */
+/* The largest position: 2^60, and 2^59 for check runs. */
 #define BBP_MAX_POSITION UINT64_C(1152921504606846976)
-#define BBP_MAX_BLOCKS 256
+#define BBP_CHECK_MAX_POSITION UINT64_C(576460752303423488)
+
+/* The number of rows, which count from 0, and the largest block count; blocks are 0 to C - 1. */
 #define BBP_ROWS 7
+#define BBP_CHECK_ROWS 4
+#define BBP_MAX_BLOCKS 256
 
 /* Sizes of slices, in bytes. */
-#define BBP_LEDGER_SIZE 352 /* a ledger, exactly: 16, and 48 for each row */
-#define BBP_SUM_SIZE 16     /* the sum of a ticket or of a half, exactly */
-#define BBP_DIGITS_SIZE 32  /* the digits' slice of a closing, exactly */
-#define BBP_LIST_MAX 3584   /* a list to be worked, at most: 2 for each of 7 * 256 tickets */
-#define BBP_SHEET_MAX 35856 /* a sheet that is read or posted, at most */
+#define BBP_SUM_SIZE 16           /* the sum of a ticket or of a half, exactly */
+#define BBP_DIGITS_SIZE 32        /* the digits' slice of a closing, exactly */
+#define BBP_LEDGER_SIZE 352       /* a ledger, exactly: 16, and 48 for each row */
+#define BBP_CHECK_LEDGER_SIZE 208
+#define BBP_LIST_MAX 3584         /* a list to be worked, at most: 2 for each of 256 tickets of each row */
+#define BBP_CHECK_LIST_MAX 2048
+#define BBP_SHEET_MAX 35856       /* a sheet that is read or posted, at most: 16, and 20 for each of these tickets */
+#define BBP_CHECK_SHEET_MAX 20496
 
-/* Where a row's sum, 16 bytes, and its marks, 32 bytes, stand in a ledger: row 0 to 6. */
+/* Where a row's sum, 16 bytes, and its marks, 32 bytes, stand in a ledger. */
 #define BBP_ROW_SUM_AT(row) (16 + 16 * (row))
 #define BBP_ROW_MARKS_AT(row) (128 + 32 * (row))
+#define BBP_CHECK_ROW_MARKS_AT(row) (80 + 32 * (row))
 
 /* The length of a sheet of e tickets, and of its list and its sums when read. */
 #define BBP_SHEET_SIZE(e) (16 + 20 * (e))
 #define BBP_LIST_SIZE(e) (2 * (e))
 #define BBP_SUMS_SIZE(e) (16 * (e))
 
-/* A ticket as a list has it, in 2 bytes: row 0 to 6, block 0 to 255. */
+/* A ticket as a list has it, in 2 bytes: a row, and a block 0 to 255. */
 #define BBP_PAIR(row, block) (256 * (row) + (block))
 
 /*
@@ -77,17 +112,17 @@ extern "C" {
  * compares -answer with these.
  */
 enum bbp_refusal {
-    /* A slice of the wrong size: a ledger not of 352 bytes, a sum not of 16, digits not of 32; a list
-       to be worked of odd length or over 3,584; a sheet to read or post under 16 or over 35,856; a
-       sheet to write under 16 + 20e; read outputs under 2e or 16e, where e is the count in the sheet's
-       head. */
+    /* A slice of the wrong size: a ledger not of BBP_LEDGER_SIZE bytes, a sum not of 16, digits not of
+       32; a list to be worked of odd length or over BBP_LIST_MAX; a sheet to read or post under 16 or
+       over BBP_SHEET_MAX; a sheet to write under 16 + 20e; read outputs under 2e or 16e, where e is the
+       count in the sheet's head. Here and below, a check call goes by the BBP_CHECK_ constants. */
     BBP_REFUSED_SIZE = 1,
     /* The position or the block count, of the call or in the sheet's head, is out of range. */
     BBP_REFUSED_RANGE = 2,
     /* A sheet's length is not 16 + 20e, one of its zero bytes is not zero, or a list or a sheet's
        contents do not strictly ascend by 256 * row + block. */
     BBP_REFUSED_FORM = 3,
-    /* A row above 6, or a block not below the block count of the call or of the sheet. */
+    /* A row not below BBP_ROWS, or a block not below the block count of the call or of the sheet. */
     BBP_REFUSED_TICKET = 4,
     /* The ledger is not in order: p or C out of range, one of its 6 zero bytes not zero, or a mark
        set at C or above. */
@@ -106,9 +141,10 @@ enum bbp_refusal {
  * Works the ticket (p, c, row, block): writes its sum, the signed sum of its
  * terms modulo 2^128, into the 16 bytes of `sum`. An empty block has sum 0.
  * Answers 0, or refusal 1 (sum_len not 16), 2 or 4.
- * The time grows with the number of terms, about 0.4 * p / c.
+ * The time grows with the number of terms.
  */
 int64_t bbp_work(uint64_t p, uint64_t c, uint64_t row, uint64_t block, uint8_t *sum, size_t sum_len);
+int64_t bbp_check_work(uint64_t p, uint64_t c, uint64_t row, uint64_t block, uint8_t *sum, size_t sum_len);
 
 /*
  * Work one half of the ticket (p, c, row, block), and are refused as bbp_work
@@ -128,17 +164,20 @@ int64_t bbp_work(uint64_t p, uint64_t c, uint64_t row, uint64_t block, uint8_t *
  * These calls go on cutting in two until they come to single terms. The stack
  * that they need grows with the logarithm of the number of terms, which
  * matters to a caller that starts threads with small stacks: it is greatest at
- * p = 2^60 with c = 1, and stays below 12,000 bytes there.
+ * the largest position with c = 1, and stays below 12,500 bytes there.
  */
 int64_t bbp_work_lower(uint64_t p, uint64_t c, uint64_t row, uint64_t block, uint8_t *sum, size_t sum_len);
+int64_t bbp_check_work_lower(uint64_t p, uint64_t c, uint64_t row, uint64_t block, uint8_t *sum, size_t sum_len);
 int64_t bbp_work_upper(uint64_t p, uint64_t c, uint64_t row, uint64_t block, uint8_t *sum, size_t sum_len);
+int64_t bbp_check_work_upper(uint64_t p, uint64_t c, uint64_t row, uint64_t block, uint8_t *sum, size_t sum_len);
 
 /*
  * Opens the run (p, c): writes a fresh ledger, with no ticket marked and every
- * row sum 0, over all 352 bytes of `ledger`, whatever they held. Answers 0, or
- * refusal 1 (ledger_len not 352) or 2.
+ * row sum 0, over all bytes of `ledger`, whatever they held. Answers 0, or
+ * refusal 1 (ledger_len not BBP_LEDGER_SIZE) or 2.
  */
 int64_t bbp_open(uint64_t p, uint64_t c, uint8_t *ledger, size_t ledger_len);
+int64_t bbp_check_open(uint64_t p, uint64_t c, uint8_t *ledger, size_t ledger_len);
 
 /*
  * Posts one ticket with the offered sum (16 bytes; it is not worked again):
@@ -148,44 +187,55 @@ int64_t bbp_open(uint64_t p, uint64_t c, uint8_t *ledger, size_t ledger_len);
  */
 int64_t bbp_post(uint8_t *ledger, size_t ledger_len, uint64_t p, uint64_t c, uint64_t row, uint64_t block,
                  const uint8_t *sum, size_t sum_len);
+int64_t bbp_check_post(uint8_t *ledger, size_t ledger_len, uint64_t p, uint64_t c, uint64_t row, uint64_t block,
+                       const uint8_t *sum, size_t sum_len);
 
 /*
  * Works every ticket of a list and writes them as one sheet. `list` has 2
  * bytes for each ticket, 256 * row + block, strictly ascending; it may be
  * empty. With e tickets the sheet takes 16 + 20e bytes of `sheet`; bytes past
  * them are left as found. Answers that length, or refusal 1 (list_len odd or
- * over 3,584, or sheet_len under 16 + 20e), 2, 3 or 4.
+ * over BBP_LIST_MAX, or sheet_len under 16 + 20e), 2, 3 or 4.
  */
 int64_t bbp_sheet_write(uint64_t p, uint64_t c, const uint8_t *list, size_t list_len, uint8_t *sheet, size_t sheet_len);
+int64_t bbp_check_sheet_write(uint64_t p, uint64_t c, const uint8_t *list, size_t list_len, uint8_t *sheet,
+                              size_t sheet_len);
 
 /*
  * Reads a sheet: with e tickets in it, writes their list into the first 2e
  * bytes of `list` and their sums into the first 16e bytes of `sums`; bytes
  * past them are left as found. The run is in the sheet's head: p in its bytes
  * 0 to 7, C in its bytes 8 and 9. The sums are not worked again. Answers e, or
- * refusal 1 (sheet_len under 16 or over 35,856, list_len under 2e, sums_len
- * under 16e), 2, 3 or 4.
+ * refusal 1 (sheet_len under 16 or over BBP_SHEET_MAX, list_len under 2e,
+ * sums_len under 16e), 2, 3 or 4.
  */
 int64_t bbp_sheet_read(const uint8_t *sheet, size_t sheet_len, uint8_t *list, size_t list_len,
                        uint8_t *sums, size_t sums_len);
+int64_t bbp_check_sheet_read(const uint8_t *sheet, size_t sheet_len, uint8_t *list, size_t list_len,
+                             uint8_t *sums, size_t sums_len);
 
 /*
  * Posts every ticket of a sheet, in order, or none: marks them and adds each
  * sum to that of its ticket's row modulo 2^128. Answers 0, or refusal 1
- * (ledger_len not 352, sheet_len under 16 or over 35,856), 2, 3, 4, 5, 6 or 7.
+ * (ledger_len not BBP_LEDGER_SIZE, sheet_len under 16 or over BBP_SHEET_MAX),
+ * 2, 3, 4, 5, 6 or 7. The sheet has to be of the ledger's formula: no refusal
+ * tells one of the other formula (above, "Keep the two kinds apart").
  */
 int64_t bbp_sheet_post(uint8_t *ledger, size_t ledger_len, const uint8_t *sheet, size_t sheet_len);
+int64_t bbp_check_sheet_post(uint8_t *ledger, size_t ledger_len, const uint8_t *sheet, size_t sheet_len);
 
 /*
  * Closes a ledger: writes the d digits that it settles, d from 1 to 32, as
  * characters 0-9A-F into the first d bytes of `digits`; the other bytes are
  * left as found. The first is the digit at position p. The total that settles
- * them is the sum of the seven row sums modulo 2^128. The ledger is not
- * changed. Answers d, or refusal 1 (ledger_len not 352, digits_len not 32), 5,
- * 8 or 9. A ledger of 256 bytes, as version 1.0.0 kept it, is closed with the
- * closing program of that version.
+ * them is the sum of all row sums modulo 2^128. The ledger is not changed.
+ * Answers d, or refusal 1 (ledger_len not BBP_LEDGER_SIZE, digits_len not 32),
+ * 5, 8 or 9. A ledger of 256 bytes, as version 1.0.0 kept it, is closed with
+ * the closing program of that version. The closing program is for ledgers of
+ * Bellard's runs; a check run is closed with this call alone.
  */
 int64_t bbp_close(const uint8_t *ledger, size_t ledger_len, uint8_t *digits, size_t digits_len);
+int64_t bbp_check_close(const uint8_t *ledger, size_t ledger_len, uint8_t *digits, size_t digits_len);
 
 #ifdef __cplusplus
 }
