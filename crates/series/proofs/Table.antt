@@ -13,7 +13,7 @@ use Rattle.series.specs.Series.{Formula, Row, rowCount, rowAt, divisor, 
 use Rattle.series.specs.Fitting.{Fitting}
 use Rattle.series.specs.Names.{formulaOf}
 use Rattle.series.specs.declared.Series.{Series}
-use Rattle.series.specs.declared.Series.the-variants.{Bellard}
+use Rattle.series.specs.declared.Series.the-variants.{Bellard, Check}
 
 odd : Row → Bool
 odd r = eqb (r .m % 2) 0 && eqb (r .j % 2) 1
@@ -27,6 +27,7 @@ fits F r = odd r && small F r
 test : (f : Series) → allBelow (rowCount (formulaOf f)) (λ i. fits (formulaOf f) (rowAt (formulaOf f) i)) ≡ true
 unfolding allBelow fits odd small termCount
 test Bellard = refl
+test Check = refl
 
 rule : (F : Formula) (r : Row) → fits F r ≡ true → Fitting F r
 unfolding fits odd small

@@ -1,24 +1,24 @@
 // The signed sum of a range of terms by halves: the range is cut in two, and each part again, until a part has one term or none.
 use crate::Series;
-use crate::rows::Row;
+use crate::terms::Numbers;
 use words::Wide;
 ghost use mathlib.Core.Path.{_≡_};
-ghost use Prim.Native.Nat.{_+_, _-_, _≤_, _<_};
+ghost use Prim.Native.Nat.{ℕ, _+_, _-_, _≤_, _<_};
 ghost use Rattle.words.specs.Words.{joined};
-ghost use Rattle.series.specs.Series.{rowCount, rowAt, termCount, rangeSum};
-ghost use Rattle.series.specs.Names.{formulaOf, rowOf};
-ghost use Rattle.series.specs.Fitting.{Position, Fitting};
+ghost use Rattle.series.specs.Series.{Formula, Row, rowCount, rowAt, termCount, rangeSum};
+ghost use Rattle.series.specs.Names.{formulaOf, numbersOf};
+ghost use Rattle.series.specs.Fitting.{Position, Workable};
 
 // One term with its sign, or none, modulo 2^128.
-pub fn one_or_none(f: Series, p: u64, row: Row, first: u64, count: u64) -> Wide
-    requires { ⌜ Position (formulaOf f) p × Fitting (formulaOf f) (rowOf row) × (first + count ≤ termCount (formulaOf f) p) × (count < 2) ⌝ }
-    ensures { λ s. ⌜ joined (s .hi) (s .lo) ≡ rangeSum (formulaOf f) p (rowOf row) first count ⌝ }
+pub fn one_or_none(numbers: Numbers, first: u64, count: u64) -> Wide
+    requires { ⌜ Workable numbers (first + count) × (count < 2) ⌝ }
+    ensures { λ s. ⌜ ((F : Formula) (p : ℕ) (r : Row) → numbers ≡ numbersOf F p r → joined (s .hi) (s .lo) ≡ rangeSum F p r first count) ⌝ }
 {
     if count == 0 {
         return Wide { hi: 0, lo: 0 };
     }
-    let q = crate::terms::size(f, p, row, first);
-    if crate::terms::is_added(f, row, first) {
+    let q = crate::terms::size(numbers, first);
+    if crate::terms::is_added(numbers, first) {
         q
     } else {
         words::sub(Wide { hi: 0, lo: 0 }, q)
@@ -27,22 +27,22 @@ pub fn one_or_none(f: Series, p: u64, row: Row, first: u64, count: u64) -> Wide
 
 // The signed sum of the sizes of `count` terms from `first` on, modulo 2^128. The lower half has count / 2 of them.
 // A half is cut again only if it has two terms or more, so that there is one call for each cut and none for each term.
-pub fn by_halves(f: Series, p: u64, row: Row, first: u64, count: u64) -> Wide
-    requires { ⌜ Position (formulaOf f) p × Fitting (formulaOf f) (rowOf row) × (first + count ≤ termCount (formulaOf f) p) ⌝ }
-    ensures { λ s. ⌜ joined (s .hi) (s .lo) ≡ rangeSum (formulaOf f) p (rowOf row) first count ⌝ }
+pub fn by_halves(numbers: Numbers, first: u64, count: u64) -> Wide
+    requires { ⌜ Workable numbers (first + count) ⌝ }
+    ensures { λ s. ⌜ ((F : Formula) (p : ℕ) (r : Row) → numbers ≡ numbersOf F p r → joined (s .hi) (s .lo) ≡ rangeSum F p r first count) ⌝ }
 {
     let half = count / 2;
     let rest = count - half;
     let cut = first + half;
     let lower = if half < 2 {
-        one_or_none(f, p, row, first, half)
+        one_or_none(numbers, first, half)
     } else {
-        by_halves(f, p, row, first, half)
+        by_halves(numbers, first, half)
     };
     let upper = if rest < 2 {
-        one_or_none(f, p, row, cut, rest)
+        one_or_none(numbers, cut, rest)
     } else {
-        by_halves(f, p, row, cut, rest)
+        by_halves(numbers, cut, rest)
     };
     words::add(lower, upper)
 }
@@ -52,6 +52,6 @@ pub fn range_sum(f: Series, p: u64, row: u64, first: u64, end: u64) -> Wide
     requires { ⌜ Position (formulaOf f) p × (row < rowCount (formulaOf f)) × (first ≤ end) × (end ≤ termCount (formulaOf f) p) ⌝ }
     ensures { λ s. ⌜ joined (s .hi) (s .lo) ≡ rangeSum (formulaOf f) p (rowAt (formulaOf f) row) first (end - first) ⌝ }
 {
-    let numbers = crate::rows::row_at(f, row);
-    by_halves(f, p, numbers, first, end - first)
+    let numbers = crate::terms::numbers_of(f, p, row);
+    by_halves(numbers, first, end - first)
 }

@@ -7,4 +7,5 @@ pub mod terms;
 // The formulas that the engine works by. `formulaOf` of the specifications says what each stands for.
 pub enum Series {
     Bellard,
+    Check,
 }

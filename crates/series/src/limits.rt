@@ -10,6 +10,7 @@ pub fn row_count(f: Series) -> usize
 {
     match f {
         Series::Bellard => 7,
+        Series::Check => 4,
     }
 }
 
@@ -19,5 +20,6 @@ pub fn last_position(f: Series) -> u64
 {
     match f {
         Series::Bellard => 1152921504606846976,
+        Series::Check => 576460752303423488,
     }
 }

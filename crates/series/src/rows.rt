@@ -58,6 +58,33 @@ const BELLARD: [Row; 7] = [
     },
 ];
 
+const CHECK: [Row; 4] = [
+    Row {
+        m: 8,
+        j: 1,
+        lead: 130,
+        added: true,
+    },
+    Row {
+        m: 2,
+        j: 1,
+        lead: 127,
+        added: false,
+    },
+    Row {
+        m: 8,
+        j: 5,
+        lead: 128,
+        added: false,
+    },
+    Row {
+        m: 4,
+        j: 3,
+        lead: 127,
+        added: false,
+    },
+];
+
 // Row r of a formula.
 pub fn row_at(f: Series, r: u64) -> Row
     requires { ⌜ r < rowCount (formulaOf f) ⌝ }
@@ -65,5 +92,6 @@ pub fn row_at(f: Series, r: u64) -> Row
 {
     match f {
         Series::Bellard => BELLARD[r as usize],
+        Series::Check => CHECK[r as usize],
     }
 }

@@ -1,14 +1,25 @@
 // The terms of a row: how many there are, their sizes and signs, and the signed sum of a range of them.
 use crate::Series;
-use crate::rows::Row;
 use words::Wide;
 ghost use mathlib.Core.Path.{_≡_};
-ghost use Prim.Native.Nat.{_-_, _≤_, _<_};
+ghost use mathlib.Core.Bool.{cond};
+ghost use Prim.Native.Nat.{ℕ, _+_, _-_, _≤_, _<_};
 ghost use Rattle.words.specs.Words.{joined};
-ghost use Rattle.series.specs.Series.{rowCount, rowAt, isAdded, termCount, rangeSum};
+ghost use Rattle.series.specs.Series.{Formula, Row, rowCount, rowAt, isAdded, termCount, rangeSum};
 ghost use Rattle.series.specs.Series as definition;
-ghost use Rattle.series.specs.Names.{formulaOf, rowOf};
-ghost use Rattle.series.specs.Fitting.{Position, Fitting};
+ghost use Rattle.series.specs.Names.{formulaOf, numbersOf};
+ghost use Rattle.series.specs.Fitting.{Position, Workable};
+
+// What the terms of a row at a position are worked by: E of term k is rise - step * k, N is m * k + j, and `turn` is 1 where the signs
+// alternate, else 0. It is set before the first term, so that no term asks for the formula.
+pub struct Numbers {
+    pub rise: u64,
+    pub step: u64,
+    pub turn: u64,
+    pub m: u64,
+    pub j: u64,
+    pub added: bool,
+}
 
 // By how much E falls from one term to the next.
 pub fn step(f: Series) -> u64
@@ -16,6 +27,7 @@ pub fn step(f: Series) -> u64
 {
     match f {
         Series::Bellard => 10,
+        Series::Check => 4,
     }
 }
 
@@ -27,27 +39,50 @@ pub fn term_count(f: Series, p: u64) -> u64
     (4 * (p - 1) + 130) / step(f) + 1
 }
 
-// Whether term k is added.
-pub fn is_added(f: Series, row: Row, k: u64) -> bool
-    ensures { λ r. ⌜ r ≡ isAdded (formulaOf f) (rowOf row) k ⌝ }
+// 1 where the signs of a row alternate, else 0.
+pub fn turn(f: Series) -> u64
+    ensures { λ r. ⌜ r ≡ cond (formulaOf f .alternates) 1 0 ⌝ }
 {
     match f {
-        Series::Bellard => (k % 2 == 0) == row.added,
+        Series::Bellard => 1,
+        Series::Check => 0,
     }
 }
 
-// The size of term k. E is `rise` less `fall`; where it is below 0 the size is 0.
-pub fn size(f: Series, p: u64, row: Row, k: u64) -> Wide
-    requires { ⌜ Position (formulaOf f) p × Fitting (formulaOf f) (rowOf row) × (k < termCount (formulaOf f) p) ⌝ }
-    ensures { λ q. ⌜ joined (q .hi) (q .lo) ≡ definition.size (formulaOf f) p (rowOf row) k ⌝ }
+// The numbers of a row at position p.
+pub fn numbers_of(f: Series, p: u64, row: u64) -> Numbers
+    requires { ⌜ Position (formulaOf f) p × (row < rowCount (formulaOf f)) ⌝ }
+    ensures { λ n. ⌜ n ≡ numbersOf (formulaOf f) p (rowAt (formulaOf f) row) ⌝ }
 {
-    let rise = 4 * (p - 1) + row.lead;
-    let fall = step(f) * k;
-    if rise < fall {
+    let r = crate::rows::row_at(f, row);
+    Numbers {
+        rise: 4 * (p - 1) + r.lead,
+        step: step(f),
+        turn: turn(f),
+        m: r.m,
+        j: r.j,
+        added: r.added,
+    }
+}
+
+// Whether term k is added.
+pub fn is_added(numbers: Numbers, k: u64) -> bool
+    ensures { λ b. ⌜ ((F : Formula) (p : ℕ) (r : Row) → numbers ≡ numbersOf F p r → b ≡ isAdded F r k) ⌝ }
+{
+    (k % 2 * numbers.turn == 0) == numbers.added
+}
+
+// The size of term k. Where E is below 0 the size is 0.
+pub fn size(numbers: Numbers, k: u64) -> Wide
+    requires { ⌜ Workable numbers (k + 1) ⌝ }
+    ensures { λ q. ⌜ ((F : Formula) (p : ℕ) (r : Row) → numbers ≡ numbersOf F p r → joined (q .hi) (q .lo) ≡ definition.size F p r k) ⌝ }
+{
+    let fall = numbers.step * k;
+    if numbers.rise < fall {
         return Wide { hi: 0, lo: 0 };
     }
-    let e = rise - fall;
-    let n = row.m * k + row.j;
+    let e = numbers.rise - fall;
+    let n = numbers.m * k + numbers.j;
     if e < 128 {
         montgomery::plain_quotient(e, n)
     } else {
@@ -60,12 +95,12 @@ pub fn range_sum(f: Series, p: u64, row: u64, first: u64, end: u64) -> Wide
     requires { ⌜ Position (formulaOf f) p × (row < rowCount (formulaOf f)) × (first ≤ end) × (end ≤ termCount (formulaOf f) p) ⌝ }
     ensures { λ s. ⌜ joined (s .hi) (s .lo) ≡ rangeSum (formulaOf f) p (rowAt (formulaOf f) row) first (end - first) ⌝ }
 {
-    let numbers = crate::rows::row_at(f, row);
+    let numbers = numbers_of(f, p, row);
     let mut sum = Wide { hi: 0, lo: 0 };
     let mut k = first;
     while k < end {
-        let q = size(f, p, numbers, k);
-        if is_added(f, numbers, k) {
+        let q = size(numbers, k);
+        if is_added(numbers, k) {
             sum = words::add(sum, q);
         } else {
             sum = words::sub(sum, q);

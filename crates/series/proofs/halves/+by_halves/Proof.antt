@@ -10,7 +10,7 @@ use borrow.Fn.PlainCycle.{Measures, is, falls, and}
 use Rattle.words.proofs.Joined.{value}
 use Rattle.words.proofs.add.Reads as add-reads
 use Rattle.series.specs.Series.{modulus}
-use Rattle.series.proofs.Numbers.{count-small}
+use Rattle.series.proofs.Numbers.{fewer}
 use Rattle.series.proofs.ByHalves.{halved}
 use Rattle.series.proofs.halves.one_or_none.Reads as one-or-none-reads
 use Rattle.series.proofs.halves.by_halves.Reads as by-halves
@@ -20,7 +20,7 @@ use Rattle.series.proofs.halves.+by_halves.{statement}
 use Rattle.series.proofs.halves.+by_halves.Tie.{close}
 
 abbrev measure : Measures 0 by-halves-kinds.ps ℕ
-measure κs a = a .1 .1 .1 .1 .0
+measure κs a = a .1 .1 .0
 
 -- what a call is given at the measure t, what a call in it asks below t, and what is known of all calls in it
 abbrev given : ℕ → In 0 by-halves-kinds.ps
@@ -37,34 +37,30 @@ module _ (t : ℕ) where
   sub-rest c = omega arith
 
   add-cut : lts.Need-add-cut (calls t) (given t) by-halves.Post
-  add-cut c = record { fits = omega (arith, c .pre .1 .2, count-small (c .args .f) _ (c .pre .1 .0)) }
+  add-cut c = record { fits = omega (arith, c .pre .1 .end-fits) }
 
   one-or-none-requires : lts.Need-one-or-none-requires (calls t) (given t) by-halves.Post
-  one-or-none-requires c κs = let s = c .before in (s .pre .1 .0, s .pre .1 .1, omega (arith, s .pre .1 .2), c .if1 .taken)
+  one-or-none-requires c κs = (fewer _ _ _ (omega arith) (c .before .pre .1), c .if1 .taken)
 
   by-halves-requires : lts.Need-by-halves-requires (calls t) (given t) by-halves.Post
-  by-halves-requires c κs =
-      let s = c .before in
-      (omega (arith, s .pre .0, c .if1 .left), (s .pre .1 .0, s .pre .1 .1, omega (arith, s .pre .1 .2)))
+  by-halves-requires c κs = let s = c .before in (omega (arith, s .pre .0, c .if1 .left), fewer _ _ _ (omega arith) (s .pre .1))
 
   one-or-none-requires-2 : lts.Need-one-or-none-requires-2 (calls t) (given t) by-halves.Post
-  one-or-none-requires-2 c κs = let s = c .before .before in (s .pre .1 .0, s .pre .1 .1, omega (arith, s .pre .1 .2), c .if2 .taken)
+  one-or-none-requires-2 c κs = (fewer _ _ _ (omega arith) (c .before .before .pre .1), c .if2 .taken)
 
   by-halves-requires-2 : lts.Need-by-halves-requires-2 (calls t) (given t) by-halves.Post
-  by-halves-requires-2 c κs =
-      let s = c .before .before in
-      (omega (arith, s .pre .0, c .if2 .left), (s .pre .1 .0, s .pre .1 .1, omega (arith, s .pre .1 .2)))
+  by-halves-requires-2 c κs = let s = c .before .before in (omega (arith, s .pre .0, c .if2 .left), fewer _ _ _ (omega arith) (s .pre .1))
 
   add-requires : lts.Need-add-requires (calls t) (given t) by-halves.Post
   add-requires c κs = search needs
 
   returns : lts.Need-returns (calls t) (given t) by-halves.Post
-  returns c =
+  returns c F p r n =
       c .add .ensures
       ∙ ap₂ (λ (x y : ℕ). (x + y) % modulus)
-      (⊎-elim (λ w. ap value (w .2) ∙ w .1 .ensures) (λ w. ap value (w .2) ∙ w .1 .ensures) (c .before .before .if1 .came))
-      (⊎-elim (λ w. ap value (w .2) ∙ w .1 .ensures) (λ w. ap value (w .2) ∙ w .1 .ensures) (c .before .if2 .came))
-      ∙ halved _ _ _ _ _
+      (⊎-elim (λ w. ap value (w .2) ∙ w .1 .ensures F p r n) (λ w. ap value (w .2) ∙ w .1 .ensures F p r n) (c .before .before .if1 .came))
+      (⊎-elim (λ w. ap value (w .2) ∙ w .1 .ensures F p r n) (λ w. ap value (w .2) ∙ w .1 .ensures F p r n) (c .before .if2 .came))
+      ∙ halved F p r _ _
 
 pub +by-halves-spec : {M : Type 1} → statement M
 +by-halves-spec =

@@ -6,6 +6,7 @@ use native.Mathlib.Omega.{arith}
 use borrow.Author.Needs.{needs}
 use Rattle.words.proofs.Joined.{joined-zero, joined-lt}
 use Rattle.series.specs.Series.{rangeSum}
+use Rattle.series.proofs.Numbers.{fewer}
 use Rattle.series.proofs.RangeSums.{empty}
 use Rattle.series.proofs.ByHalves.{as-it-is, negated}
 use Rattle.series.proofs.halves.one_or_none.Statement.{statement}
@@ -16,13 +17,13 @@ one : (n : ℕ) → n < 2 → (n ≡ 0 → ⊥) → n ≡ 1
 one n h f = omega arith
 
 returns : tie.Need-returns
-returns c = joined-zero ∙ empty _ _ _ _ ∙ ap (rangeSum _ _ _ _) (sym (c .if1 .taken))
+returns c F p r e = joined-zero ∙ empty F p r _ ∙ ap (rangeSum F p r _) (sym (c .if1 .taken))
 
 size-requires : tie.Need-size-requires
 size-requires c κs =
     let s = c .before in
-    let e = one _ (s .pre .3) (c .if1 .left) in
-    (s .pre .0, s .pre .1, omega arith)
+    let e = one _ (s .pre .1) (c .if1 .left) in
+    fewer _ _ _ (omega arith) (s .pre .0)
 
 is-added-requires : tie.Need-is-added-requires
 is-added-requires c κs = search needs
@@ -31,19 +32,19 @@ sub-requires : tie.Need-sub-requires
 sub-requires c κs = search needs
 
 returns-2 : tie.Need-returns-2
-returns-2 c =
+returns-2 c F p r n =
     let size = c .before .before in
-    let e = one _ (size .before .before .pre .3) (size .before .if1 .left) in
-    as-it-is _ _ _ _ _ _ e (sym (c .before .is-added .ensures) ∙ c .if2 .taken) (size .size .ensures)
+    let e = one _ (size .before .before .pre .1) (size .before .if1 .left) in
+    as-it-is F p r _ _ _ e (sym (c .before .is-added .ensures F p r n) ∙ c .if2 .taken) (size .size .ensures F p r n)
 
 -- the difference is below 2 ^ 128, since both words of the call's result fit (`ok`)
 returns-3 : tie.Need-returns-3
-returns-3 c =
+returns-3 c F p r n =
     let added = c .before .before in
     let size = added .before in
-    let e = one _ (size .before .before .pre .3) (size .before .if1 .left) in
+    let e = one _ (size .before .before .pre .1) (size .before .if1 .left) in
     let fits = c .sub .ok .1 .1 in
-    negated _ _ _ _ _ _ e _ (sym (added .is-added .ensures) ∙ c .before .if2 .left) (size .size .ensures)
+    negated F p r _ _ _ e _ (sym (added .is-added .ensures F p r n) ∙ c .before .if2 .left) (size .size .ensures F p r n)
     (joined-lt _ _ (fits .0 .1) (fits .1 .0 .1)) (c .sub .ensures ∙ joined-zero)
 
 pub one-or-none-spec : {M : Type 1} → statement M

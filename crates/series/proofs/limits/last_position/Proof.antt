@@ -1,17 +1,23 @@
 -- `series::limits::last_position` meets its contract, formula by formula.
 -- Assumes nothing.
-use mathlib.Core.Path.{_≡_, refl}
+use mathlib.Core.Path.{sym, ap}
 use Rattle.series.specs.Names.{formulaOf}
 use Rattle.series.specs.declared.Series.{Series}
-use Rattle.series.specs.declared.Series.the-variants.{Bellard}
+use borrow.Author.Needs.{needs}
 use Rattle.series.proofs.limits.last_position.Statement.{statement}
 use Rattle.series.proofs.limits.last_position.Tie as tie
 
-law : (f : Series) → 1152921504606846976 ≡ formulaOf f .last
-law Bellard = refl
+enum-told : tie.Need-enum-told
+enum-told c = search needs
+
+enum-told-2 : tie.Need-enum-told-2
+enum-told-2 c = search needs
 
 returns : tie.Need-returns
-returns c = law (c .args .f)
+returns c = sym (ap (λ (f : Series). formulaOf f .last) (c .enum-told .given .1))
+
+returns-2 : tie.Need-returns-2
+returns-2 c = sym (ap (λ (f : Series). formulaOf f .last) (c .enum-told2 .given .1))
 
 pub last-position-spec : {M : Type 1} → statement M
-last-position-spec = tie.close (tie.spec returns)
+last-position-spec = tie.close (tie.spec enum-told enum-told-2 returns returns-2)

@@ -1,18 +1,24 @@
 -- `series::limits::row_count` meets its contract, formula by formula.
 -- Assumes nothing.
-use mathlib.Core.Path.{_≡_, refl}
+use mathlib.Core.Path.{sym, ap}
 use Rattle.series.specs.Series.{rowCount}
 use Rattle.series.specs.Names.{formulaOf}
 use Rattle.series.specs.declared.Series.{Series}
-use Rattle.series.specs.declared.Series.the-variants.{Bellard}
+use borrow.Author.Needs.{needs}
 use Rattle.series.proofs.limits.row_count.Statement.{statement}
 use Rattle.series.proofs.limits.row_count.Tie as tie
 
-law : (f : Series) → 7 ≡ rowCount (formulaOf f)
-law Bellard = refl
+enum-told : tie.Need-enum-told
+enum-told c = search needs
+
+enum-told-2 : tie.Need-enum-told-2
+enum-told-2 c = search needs
 
 returns : tie.Need-returns
-returns c = law (c .args .f)
+returns c = sym (ap (λ (f : Series). rowCount (formulaOf f)) (c .enum-told .given .1))
+
+returns-2 : tie.Need-returns-2
+returns-2 c = sym (ap (λ (f : Series). rowCount (formulaOf f)) (c .enum-told2 .given .1))
 
 pub row-count-spec : {M : Type 1} → statement M
-row-count-spec = tie.close (tie.spec returns)
+row-count-spec = tie.close (tie.spec enum-told enum-told-2 returns returns-2)

@@ -1,14 +1,15 @@
--- `series::terms::is_added` meets its contract, formula by formula.
+-- `series::terms::is_added` meets its contract: where the signs alternate it goes by k, else by the row alone.
 -- Assumes nothing.
-use mathlib.Core.Path.{_≡_, refl}
+use mathlib.Core.Path.{_≡_, refl, sym, ap, _∙_}
 use mathlib.Core.Bool.{Bool, true, false, Bool·beq, not, cond}
-use Prim.Native.Nat.{ℕ, _%_}
+use Prim.Native.Nat.{ℕ, _*_, _%_, _≤_}
+use native.Mathlib.Nat.{mul-one, mul-zero, mul-le-mul-right}
+use native.Mathlib.Omega.{arith}
+use borrow.Author.Needs.{needs}
 use lib.Dec.{eqb}
-use Rattle.series.specs.Series.{isAdded}
-use Rattle.series.specs.Names.{formulaOf, rowOf}
-use Rattle.series.specs.declared.Series.{Series}
-use Rattle.series.specs.declared.Series.the-variants.{Bellard}
-use Rattle.series.specs.declared.rows.Row.{Row}
+use Rattle.series.specs.Series.{Formula, Row, isAdded}
+use Rattle.series.specs.Names.{numbersOf}
+use Rattle.series.specs.declared.terms.Numbers.{Numbers}
 use Rattle.series.proofs.terms.is_added.Statement.{statement}
 use Rattle.series.proofs.terms.is_added.Tie as tie
 
@@ -18,12 +19,25 @@ same true false = refl
 same false true = refl
 same false false = refl
 
-law : (f : Series) (row : Row) (k : ℕ) → Bool·beq (eqb (k % 2) 0) (row .added) ≡ isAdded (formulaOf f) (rowOf row) k
+law : (n : Numbers) (k : ℕ) (F : Formula) (p : ℕ) (r : Row) → n ≡ numbersOf F p r
+    → Bool·beq (eqb (k % 2 * n .turn) 0) (n .added) ≡ isAdded F r k
 unfolding isAdded
-law Bellard row k = same (eqb (k % 2) 0) (row .added)
+law n k F p r e =
+    ap (λ (x : Numbers). Bool·beq (eqb (k % 2 * x .turn) 0) (x .added)) e ∙ go (F .alternates)
+  where
+    go : (b : Bool) → Bool·beq (eqb (k % 2 * cond b 1 0) 0) (r .added) ≡ cond b (cond (eqb (k % 2) 0) (r .added) (not (r .added))) (r .added)
+    go true = ap (λ (x : ℕ). Bool·beq (eqb x 0) (r .added)) (mul-one (k % 2)) ∙ same (eqb (k % 2) 0) (r .added)
+    go false = ap (λ (x : ℕ). Bool·beq (eqb x 0) (r .added)) (mul-zero (k % 2)) ∙ same true (r .added)
+
+mul-result : tie.Need-mul-result
+mul-result c =
+    let a = c .before .args in
+    let one : a .k % 2 ≤ 1 = omega arith in
+    let t = c .struct-known .given in
+    record { fits = omega (arith, mul-le-mul-right (a .numbers .turn) one, t) }
 
 returns : tie.Need-returns
-returns c = law (c .before .args .f) (c .before .args .row) (c .before .args .k)
+returns c = law _ _
 
 pub is-added-spec : {M : Type 1} → statement M
-is-added-spec = tie.close (tie.spec returns)
+is-added-spec = tie.close (tie.spec mul-result returns)

@@ -1,6 +1,6 @@
 -- `series::terms::range_sum` meets its contract. The loop's invariant: the sum is that of the terms passed.
 -- Assumes nothing.
-use mathlib.Core.Path.{_≡_, sym, ap, ap₂, subst, _∙_}
+use mathlib.Core.Path.{_≡_, sym, ap, subst, _∙_}
 use mathlib.Core.Logic.{⊎-elim}
 use Prim.Native.Nat.{ℕ, _+_, _-_, _%_, _≤_, _<_}
 use native.Mathlib.Omega.{arith}
@@ -8,32 +8,37 @@ use borrow.Author.Needs.{needs}
 use Rattle.words.specs.Words.{joined}
 use Rattle.words.specs.declared.Wide.{Wide}
 use Rattle.words.proofs.Joined.{value, joined-zero, joined-lt}
-use Rattle.series.specs.Series.{Row, modulus, rangeSum}
-use Rattle.series.specs.Fitting.{Fitting}
-use Rattle.series.specs.Names.{formulaOf, rowOf}
+use Rattle.series.specs.Series.{Formula, Row, rowAt, termCount, modulus, rangeSum}
+use Rattle.series.specs.Fitting.{Workable}
+use Rattle.series.specs.Names.{formulaOf, numbersOf}
+use Rattle.series.specs.declared.terms.Numbers.{Numbers}
+use Rattle.series.proofs.Numbers.{workable}
 use Rattle.series.proofs.Table.{fitting}
 use Rattle.series.proofs.RangeSums.{none, added, subtracted}
 use Rattle.series.proofs.terms.range_sum.Statement.{statement}
 use Rattle.series.proofs.terms.range_sum.Tie as tie
 
 abbrev Inv-loop : tie.InvT-loop
-Inv-loop f p row first end numbers sum₀ k₀ sum k =
-    (first ≤ k) × (k ≤ end) × (joined (sum .hi) (sum .lo) ≡ rangeSum (formulaOf f) p (rowOf numbers) first (k - first))
+Inv-loop p row first end numbers sum₀ k₀ sum k =
+    (first ≤ k)
+    × (k ≤ end)
+    × ((F : Formula) (p : ℕ) (r : Row) → numbers ≡ numbersOf F p r → joined (sum .hi) (sum .lo) ≡ rangeSum F p r first (k - first))
 
 abbrev μ-loop : tie.MeasureT-loop
-μ-loop f p row first end numbers sum₀ k₀ sum k = end - k
+μ-loop p row first end numbers sum₀ k₀ sum k = end - k
 
-row-at-requires : tie.Need-row-at-requires Inv-loop μ-loop
-row-at-requires c κs = search needs
+numbers-of-requires : tie.Need-numbers-of-requires Inv-loop μ-loop
+numbers-of-requires c κs = search needs
 
 loop-holds : tie.Need-loop-holds Inv-loop μ-loop
-loop-holds c = (search needs, search needs, joined-zero ∙ none _ _ _ _)
+loop-holds c = (search needs, search needs, λ F p r n. joined-zero ∙ none F p r _)
 
 size-requires : tie.Need-size-requires Inv-loop μ-loop
 size-requires c κs =
     let s = c .before .before .before in
-    let row = c .before .before .row-at .ensures in
-    (s .pre .0, subst (Fitting (formulaOf (s .args .f))) (sym row) (fitting (s .args .f) (s .args .row) (s .pre .1)), omega arith)
+    let l : c .before .loop .k + 1 ≤ termCount (formulaOf (s .args .f)) (s .args .p) = omega arith in
+    let w = workable (s .args .f) _ _ _ (s .pre .0) (fitting (s .args .f) (s .args .row) (s .pre .1)) l in
+    subst (λ (n : Numbers). Workable n (c .before .loop .k + 1)) (sym (c .before .before .numbers-of .ensures)) w
 
 is-added-requires : tie.Need-is-added-requires Inv-loop μ-loop
 is-added-requires c κs = search needs
@@ -54,21 +59,21 @@ loop-less c = omega arith
 loop-again : tie.Need-loop-again Inv-loop μ-loop
 loop-again c =
     let l = c .before .before .before .before in
-    let q = c .before .before .size in
+    let q = c .before .before .size .ensures in
     let a = c .before .is-added .ensures in
     ⊎-elim
     (λ w. (
       omega arith,
       omega arith,
-      added _ _ _ _ _ _ _ _ (l .loop .inv .0) (l .loop .inv .2) (q .ensures) (sym a ∙ w .0 .taken)
+      λ F p r n. added F p r _ _ _ _ _ (l .loop .inv .0) (l .loop .inv .2 F p r n) (q F p r n) (sym (a F p r n) ∙ w .0 .taken)
           (ap value (w .2) ∙ w .1 .ensures),
     ))
     (λ w. let fits = w .1 .ok .1 .1 in
     let h = subst (λ (z : Wide). value z < modulus) (sym (w .2)) (joined-lt _ _ (fits .0 .1) (fits .1 .0 .1)) in (
       omega arith,
       omega arith,
-      subtracted _ _ _ _ _ _ _ _ (l .loop .inv .0) (l .loop .inv .2) (q .ensures) h (sym a ∙ w .0 .left)
-          (ap (λ (z : Wide). (value z + value (q .result)) % modulus) (w .2) ∙ w .1 .ensures),
+      λ F p r n. subtracted F p r _ _ _ _ _ (l .loop .inv .0) (l .loop .inv .2 F p r n) (q F p r n) h (sym (a F p r n) ∙ w .0 .left)
+          (ap (λ (z : Wide). (value z + value (c .before .before .size .result)) % modulus) (w .2) ∙ w .1 .ensures),
     ))
     (c .if1 .came)
 
@@ -76,7 +81,8 @@ returns : tie.Need-returns Inv-loop μ-loop
 returns c =
     let s = c .before .before .before in
     let all : c .before .loop .k ≡ s .args .end = omega arith in
-    c .before .loop .inv .2 ∙ ap₂ (λ (r : Row) (k : ℕ). rangeSum (formulaOf (s .args .f)) (s .args .p) r (s .args .first) (k - s .args .first)) (c .before .before .row-at .ensures) all
+    c .before .loop .inv .2 _ _ _ (c .before .before .numbers-of .ensures)
+    ∙ ap (λ (k : ℕ). rangeSum (formulaOf (s .args .f)) (s .args .p) (rowAt (formulaOf (s .args .f)) (s .args .row)) (s .args .first) (k - s .args .first)) all
 
 pub range-sum-spec : {M : Type 1} → statement M
 range-sum-spec =
@@ -84,7 +90,7 @@ range-sum-spec =
     (tie.spec
     Inv-loop
     μ-loop
-    row-at-requires
+    numbers-of-requires
     loop-holds
     size-requires
     is-added-requires

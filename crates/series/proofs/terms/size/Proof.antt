@@ -1,87 +1,78 @@
--- `series::terms::size` meets its contract: one law for E below 0 and one for the others; N is odd and fits by the rule of the table.
+-- `series::terms::size` meets its contract: one law for E below 0 and one for the others.
 -- Assumes nothing.
-use mathlib.Core.Path.{_≡_, refl, ap, _∙_}
-use Prim.Native.Nat.{ℕ, _*_, _-_, _/_, _%_, _^_, _≤_, _<_}
+use mathlib.Core.Path.{_≡_, refl, sym, subst, _∙_}
+use Prim.Native.Nat.{ℕ, _+_, _*_, _-_, _/_, _%_, _^_, _≤_, _<_}
 use native.Mathlib.Omega.{arith}
 use borrow.Author.Needs.{needs}
 use borrow.Author.Tests.{le-leb, lt-leb}
 use Rattle.words.specs.Words.{joined}
-use Rattle.series.specs.Series.{Formula, Row, rise, fall, divisor, modulus, size}
-use Rattle.series.proofs.Numbers.{last-small, fall-small, divisor-fits, divisor-odd}
+use Rattle.series.specs.Series.{Formula, Row, rise, fall, modulus, size}
+use Rattle.series.specs.Names.{numbersOf}
+use Rattle.series.specs.declared.terms.Numbers.{Numbers}
 use Rattle.series.proofs.terms.size.Statement.{statement}
 use Rattle.series.proofs.terms.size.Tie as tie
 
-module _ (F : Formula) (p : ℕ) (r : Row) (k step : ℕ) (e : step ≡ F .step) where
-  negative : rise p r < step * k → joined 0 0 ≡ size F p r k
+module _ (n : Numbers) (k : ℕ) (F : Formula) (p : ℕ) (r : Row) (e : n ≡ numbersOf F p r) where
+  negative : n .rise < n .step * k → joined 0 0 ≡ size F p r k
   unfolding size joined
-  negative h = rw (lt-leb (fall F k) (rise p r) (rw e at h)) refl
+  negative h =
+      let l = subst (λ (x : Numbers). x .rise < x .step * k) e h in
+      rw (lt-leb (fall F k) (rise p r) l) refl
 
-  some : (q : ℕ) → step * k ≤ rise p r → q ≡ 2 ^ (rise p r - step * k) / divisor r k % modulus → q ≡ size F p r k
+  some : (q : ℕ) → n .step * k ≤ n .rise → q ≡ 2 ^ (n .rise - n .step * k) / (n .m * k + n .j) % modulus → q ≡ size F p r k
   unfolding size
-  some q h d = rw (le-leb (fall F k) (rise p r) (rw e at h)) (d ∙ ap (λ (s : ℕ). 2 ^ (rise p r - s * k) / divisor r k % modulus) e)
+  some q h d =
+      let l = subst (λ (x : Numbers). x .step * k ≤ x .rise) e h in
+      rw (le-leb (fall F k) (rise p r) l) (subst (λ (x : Numbers). q ≡ 2 ^ (x .rise - x .step * k) / (x .m * k + x .j) % modulus) e d)
 
 positive : (n : ℕ) → n % 2 ≡ 1 → 0 < n
 positive n o = omega arith
 
-sub-rise : tie.Need-sub-rise
-sub-rise c = search needs
-
-mul-rise : tie.Need-mul-rise
-mul-rise c = omega (arith, last-small (c .args .f))
-
-add-rise : tie.Need-add-rise
-add-rise c = omega (arith, last-small (c .before .args .f), c .before .pre .0 .high, c .before .pre .1 .lead-small)
-
-step-requires : tie.Need-step-requires
-step-requires c κs = search needs
+before-next : (k : ℕ) → k < k + 1
+before-next k = omega arith
 
 mul-fall : tie.Need-mul-fall
 mul-fall c =
-    let s = c .before .before in
-    let l = fall-small _ _ _ (s .pre .2) in
-    record { fits = rw (c .step .ensures) (omega (arith, l, last-small (s .args .f), s .pre .0 .high)) }
+    let s = c .before in
+    record { fits = omega (arith, s .pre .fall-fits (s .args .k) (before-next (s .args .k))) }
 
 returns : tie.Need-returns
-returns c = negative _ _ _ _ _ (c .before .step .ensures) (c .if1 .taken)
+returns c F p r e = negative _ _ F p r e (c .if1 .taken)
 
 mul-n : tie.Need-mul-n
 mul-n c =
-    let s = c .before .before .before .before in
-    omega (arith, divisor-fits (s .args .f) _ _ _ (s .pre .0) (s .pre .1) (s .pre .2))
+    let s = c .before .before .before .before .before in
+    record { fits = omega (arith, s .pre .small (s .args .k) (before-next (s .args .k))) }
 
 add-n : tie.Need-add-n
 add-n c =
-    let s = c .before .before .before .before .before in
-    omega (arith, divisor-fits (s .args .f) _ _ _ (s .pre .0) (s .pre .1) (s .pre .2))
+    let s = c .before .before .before .before .before .before in
+    record { fits = omega (arith, s .pre .small (s .args .k) (before-next (s .args .k))) }
 
 plain-quotient-requires : tie.Need-plain-quotient-requires
 plain-quotient-requires c κs =
-    let s = c .before .before .before .before .before .before in
-    (positive _ (divisor-odd _ _ (s .args .k) (s .pre .1)), divisor-fits (s .args .f) _ _ _ (s .pre .0) (s .pre .1) (s .pre .2))
+    let s = c .before .before .before .before .before .before .before in
+    (positive _ (s .pre .odd (s .args .k)), s .pre .small (s .args .k) (before-next (s .args .k)))
 
 quotient-of-power-requires : tie.Need-quotient-of-power-requires
 quotient-of-power-requires c κs =
-    let s = c .before .before .before .before .before .before in
-    (divisor-odd _ _ (s .args .k) (s .pre .1), divisor-fits (s .args .f) _ _ _ (s .pre .0) (s .pre .1) (s .pre .2), c .if2 .left)
+    let s = c .before .before .before .before .before .before .before in
+    (s .pre .odd (s .args .k), s .pre .small (s .args .k) (before-next (s .args .k)), c .if2 .left)
 
 returns-2 : tie.Need-returns-2
-returns-2 c =
-    let e = c .before .before .before .before in
-    some _ _ _ _ _ (e .before .step .ensures) _ (e .if1 .left) (c .plain-quotient .ensures)
+returns-2 c F p r e =
+    let other = c .before .before .before .before .before in
+    some _ _ F p r e _ (other .if1 .left) (c .plain-quotient .ensures)
 
 returns-3 : tie.Need-returns-3
-returns-3 c =
-    let e = c .before .before .before .before in
-    some _ _ _ _ _ (e .before .step .ensures) _ (e .if1 .left) (c .quotient-of-power .ensures)
+returns-3 c F p r e =
+    let other = c .before .before .before .before .before in
+    some _ _ F p r e _ (other .if1 .left) (c .quotient-of-power .ensures)
 
 pub size-spec : {M : Type 1} → statement M
 size-spec =
     tie.close
     (tie.spec
-    sub-rise
-    mul-rise
-    add-rise
-    step-requires
     mul-fall
     returns
     mul-n

@@ -1,17 +1,23 @@
 -- `series::terms::step` meets its contract, formula by formula.
 -- Assumes nothing.
-use mathlib.Core.Path.{_≡_, refl}
+use mathlib.Core.Path.{sym, ap}
 use Rattle.series.specs.Names.{formulaOf}
 use Rattle.series.specs.declared.Series.{Series}
-use Rattle.series.specs.declared.Series.the-variants.{Bellard}
+use borrow.Author.Needs.{needs}
 use Rattle.series.proofs.terms.step.Statement.{statement}
 use Rattle.series.proofs.terms.step.Tie as tie
 
-law : (f : Series) → 10 ≡ formulaOf f .step
-law Bellard = refl
+enum-told : tie.Need-enum-told
+enum-told c = search needs
+
+enum-told-2 : tie.Need-enum-told-2
+enum-told-2 c = search needs
 
 returns : tie.Need-returns
-returns c = law (c .args .f)
+returns c = sym (ap (λ (f : Series). formulaOf f .step) (c .enum-told .given .1))
+
+returns-2 : tie.Need-returns-2
+returns-2 c = sym (ap (λ (f : Series). formulaOf f .step) (c .enum-told2 .given .1))
 
 pub step-spec : {M : Type 1} → statement M
-step-spec = tie.close (tie.spec returns)
+step-spec = tie.close (tie.spec enum-told enum-told-2 returns returns-2)
