@@ -1,4 +1,4 @@
-pub mod Bellard
+pub mod Known
 pub mod ByHalves
 pub mod FewRows
 pub mod Numbers
