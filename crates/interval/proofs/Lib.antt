@@ -1,7 +1,7 @@
 pub mod Terms
 pub mod Bound
 pub mod Tail
-pub mod Bellard
+pub mod Premises
 pub mod Counts
 pub mod Denominator
 pub mod Digits

@@ -3,8 +3,7 @@ use mathlib.Core.Path.{_≡_}
 use mathlib.Core.Bool.{Bool, true, cond}
 use mathlib.Core.Logic.{_⊎_}
 use mathlib.Core.List.{List·Memᴰ}
-use Prim.Native.Nat.{ℕ, _+_, _*_, _-_, _/_, _%_, _^_, _≤_, _<_}
-use lib.Dec.{eqb}
+use Prim.Native.Nat.{ℕ, _+_, _*_, _-_, _^_, _≤_, _<_}
 use lib.IntN.{ℤ, pos, subℕ, _-ℤ_, _*ℤ_}
 use lib.Signed.{_≤ℤ_}
 use Rattle.algebra.specs.Whole.{quotient}
@@ -20,14 +19,6 @@ isCharged F p r k = true
 -- how many terms among the first K of every row are charged on a side: a on the side of the added terms, b on the other
 unfoldable pub charges : Formula → Side → ℕ → ℕ → ℕ
 charges F side p K = sideSum F side (λ r k. cond (isCharged F p r k) 1 0) 0 K
-
--- a and b of Bellard's formula in closed form: 7 K / 2 each for even K, else 7 (K - 1) / 2 + 2 and 7 (K - 1) / 2 + 5
-unfoldable pub lastTerms : Side → ℕ
-lastTerms plus = 2
-lastTerms minus = 5
-
-unfoldable pub closedCharges : Side → ℕ → ℕ
-closedCharges side K = cond (eqb (K % 2) 0) (7 * K / 2) (7 * (K - 1) / 2 + lastTerms side)
 
 -- ---- low and high: a unit for each charged term, and one unit more on each side for all the terms that are not
 

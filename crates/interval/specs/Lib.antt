@@ -1,3 +1,4 @@
 pub mod Exact
 pub mod Interval
 pub mod Digits
+pub mod Counts
