@@ -18,7 +18,7 @@ use Rattle.series.specs.Series.{Formula, rowCount, termCount, plus, minus}
 use Rattle.series.specs.Fitting.{Position}
 use Rattle.series.specs.Names.{formulaOf}
 use Rattle.series.specs.declared.Series.{Series}
-use Rattle.series.specs.declared.Series.the-variants.{Bellard}
+use Rattle.series.specs.declared.Series.the-variants.{Bellard, Check}
 use Rattle.interval.specs.Interval.{low, high, charges, unitAt}
 use Rattle.interval.specs.Digits.{settledUpTo, settled, lowDigits}
 use Rattle.run.specs.Refusal.{refusal}
@@ -164,6 +164,7 @@ full-read F s c r b e = rw b at e
 pub count-small : (f : Series) (p k : ℕ) → Position (formulaOf f) p → k ≡ termCount (formulaOf f) p → k ≤ 2 ^ 60
 unfolding termCount
 count-small Bellard p k h e = omega (arith, h, e)
+count-small Check p k h e = omega (arith, h, e)
 
 module _ (F : Formula) (s : List ℕ) (p k b T : ℕ) (p-is : p ≡ field s 0 8) (k-is : k ≡ termCount F p)
     (b-is : b ≡ charges F minus p k) (T-is : T ≡ totalIn (limitsOf F) s) where

@@ -5,7 +5,9 @@ use mathlib.Core.List.{List}
 use Prim.Native.Nat.{ℕ, _<_}
 use native.Mathlib.Omega.{arith}
 use Rattle.series.specs.Series.{Formula, modulus}
-use Rattle.series.specs.Bellard.{bellard}
+use Rattle.series.specs.Names.{formulaOf}
+use Rattle.series.specs.declared.Series.{Series}
+use Rattle.series.specs.declared.Series.the-variants.{Bellard, Check}
 use Rattle.run.specs.Run.{limitsOf, inRange}
 use Rattle.ledger.specs.Ledger.{View, totalOf}
 use Rattle.ledger.specs.Plain.{Plain, plainView, encode, fullPlain}
@@ -24,6 +26,8 @@ module _ (F : Formula) (s : Plain) (good : Good (limitsOf F) s) (out : List ℕ)
       ap₂ (λ (v : View) (t : ℕ). closingBytes F v t out) (view-encode (limitsOf F) s good) (total-encode (limitsOf F) s good)
 
 -- a ledger with every ticket of p = 1, C = 1 marked is a plain ledger's, whatever its sums
-pub good-full : (sums : ℕ → ℕ) → ((row : ℕ) → sums row < modulus) → Good (limitsOf bellard) (fullPlain (limitsOf bellard) sums)
+pub good-full : (f : Series) (sums : ℕ → ℕ) → ((row : ℕ) → sums row < modulus)
+    → Good (limitsOf (formulaOf f)) (fullPlain (limitsOf (formulaOf f)) sums)
 unfolding inRange
-good-full sums fit = record { fits = omega arith; range = refl; sums-in = fit; tickets-in = λ row block e. e }
+good-full Bellard sums fit = record { fits = omega arith; range = refl; sums-in = fit; tickets-in = λ row block e. e }
+good-full Check sums fit = record { fits = omega arith; range = refl; sums-in = fit; tickets-in = λ row block e. e }

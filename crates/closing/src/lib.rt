@@ -115,6 +115,7 @@ pub fn charges(f: Series, added: bool, k: u64) -> u64
             }
             if added { pairs + 2 } else { pairs + 5 }
         }
+        Series::Check => { if added { k } else { 3 * k } }
     }
 }
 

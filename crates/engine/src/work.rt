@@ -4,6 +4,7 @@ use series::Series;
 use ticket::Part;
 ghost use mathlib.Core.Path.{_≡_};
 ghost use Rattle.series.specs.Bellard.{bellard};
+ghost use Rattle.series.specs.Check.{check};
 ghost use Rattle.ticket.specs.declared.Part.the-variants.{Whole, Lower, Upper};
 ghost use Rattle.ticket.specs.Work.{workAnswer, workBytes};
 
@@ -16,6 +17,14 @@ pub extern "C" fn bbp_work(p: u64, c: u64, row: u64, block: u64, sum: &mut [u8])
 }
 
 #[no_mangle]
+pub extern "C" fn bbp_check_work(p: u64, c: u64, row: u64, block: u64, sum: &mut [u8]) -> i64
+    ensures answers { λ r. ⌜ r ≡ workAnswer check p c row block (now (sum .entry)) ⌝ }
+    ensures leaves { λ _. ⌜ now (sum .exit) ≡ workBytes check Whole p c row block (now (sum .entry)) ⌝ }
+{
+    to_c(ticket::work(Series::Check, Part::Whole, p, c, row, block, sum))
+}
+
+#[no_mangle]
 pub extern "C" fn bbp_work_lower(p: u64, c: u64, row: u64, block: u64, sum: &mut [u8]) -> i64
     ensures answers { λ r. ⌜ r ≡ workAnswer bellard p c row block (now (sum .entry)) ⌝ }
     ensures leaves { λ _. ⌜ now (sum .exit) ≡ workBytes bellard Lower p c row block (now (sum .entry)) ⌝ }
@@ -24,9 +33,25 @@ pub extern "C" fn bbp_work_lower(p: u64, c: u64, row: u64, block: u64, sum: &mut
 }
 
 #[no_mangle]
+pub extern "C" fn bbp_check_work_lower(p: u64, c: u64, row: u64, block: u64, sum: &mut [u8]) -> i64
+    ensures answers { λ r. ⌜ r ≡ workAnswer check p c row block (now (sum .entry)) ⌝ }
+    ensures leaves { λ _. ⌜ now (sum .exit) ≡ workBytes check Lower p c row block (now (sum .entry)) ⌝ }
+{
+    to_c(ticket::work(Series::Check, Part::Lower, p, c, row, block, sum))
+}
+
+#[no_mangle]
 pub extern "C" fn bbp_work_upper(p: u64, c: u64, row: u64, block: u64, sum: &mut [u8]) -> i64
     ensures answers { λ r. ⌜ r ≡ workAnswer bellard p c row block (now (sum .entry)) ⌝ }
     ensures leaves { λ _. ⌜ now (sum .exit) ≡ workBytes bellard Upper p c row block (now (sum .entry)) ⌝ }
 {
     to_c(ticket::work(Series::Bellard, Part::Upper, p, c, row, block, sum))
+}
+
+#[no_mangle]
+pub extern "C" fn bbp_check_work_upper(p: u64, c: u64, row: u64, block: u64, sum: &mut [u8]) -> i64
+    ensures answers { λ r. ⌜ r ≡ workAnswer check p c row block (now (sum .entry)) ⌝ }
+    ensures leaves { λ _. ⌜ now (sum .exit) ≡ workBytes check Upper p c row block (now (sum .entry)) ⌝ }
+{
+    to_c(ticket::work(Series::Check, Part::Upper, p, c, row, block, sum))
 }

@@ -1,0 +1,25 @@
+-- `engine::ledgers::bbp_check_open` meets its contract, which is that of `ledger::open`.
+-- Assumes nothing.
+use mathlib.Core.Path.{_∙_}
+use borrow.Author.Needs.{needs}
+use mir.Syntax.{w64}
+use mir.ValLaws.{toZ-ofZ}
+use Rattle.engine.proofs.ledgers.bbp_check_open.Statement.{statement}
+use Rattle.engine.proofs.ledgers.bbp_check_open.Tie as tie
+
+open-requires : tie.Need-open-requires
+open-requires c κs = search needs
+
+to-c-requires : tie.Need-to-c-requires
+to-c-requires c κs = search needs
+
+same-length : tie.Need-same-length
+same-length c = search needs
+
+returns : tie.Need-returns
+returns c =
+    let ensured = c .before .before .before .«open» .ensures in
+    (toZ-ofZ w64 _ (record { sfits = c .to-c .ok }) ∙ c .to-c .ensures ∙ ensured .0, ensured .1)
+
+pub bbp-check-open-spec : {M : Type 1} → statement M
+bbp-check-open-spec = tie.close (tie.spec open-requires to-c-requires same-length returns)

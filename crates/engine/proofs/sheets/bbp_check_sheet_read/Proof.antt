@@ -1,0 +1,28 @@
+-- `engine::sheets::bbp_check_sheet_read` meets its contract, which is that of `sheet::reading::read`.
+-- Assumes nothing.
+use mathlib.Core.Path.{_∙_}
+use borrow.Author.Needs.{needs}
+use mir.Syntax.{w64}
+use mir.ValLaws.{toZ-ofZ}
+use Rattle.engine.proofs.sheets.bbp_check_sheet_read.Statement.{statement}
+use Rattle.engine.proofs.sheets.bbp_check_sheet_read.Tie as tie
+
+read-requires : tie.Need-read-requires
+read-requires c κs = search needs
+
+to-c-requires : tie.Need-to-c-requires
+to-c-requires c κs = search needs
+
+same-length : tie.Need-same-length
+same-length c = search needs
+
+same-length-2 : tie.Need-same-length-2
+same-length-2 c = search needs
+
+returns : tie.Need-returns
+returns c =
+    let ensured = c .before .before .before .before .before .read .ensures in
+    (toZ-ofZ w64 _ (record { sfits = c .to-c .ok }) ∙ c .to-c .ensures ∙ ensured .0, ensured .1)
+
+pub bbp-check-sheet-read-spec : {M : Type 1} → statement M
+bbp-check-sheet-read-spec = tie.close (tie.spec read-requires to-c-requires same-length same-length-2 returns)

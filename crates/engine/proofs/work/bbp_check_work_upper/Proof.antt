@@ -1,0 +1,24 @@
+-- `engine::work::bbp_check_work_upper` meets its contract, which is that of `ticket::work`.
+-- Assumes nothing.
+use borrow.Author.Needs.{needs}
+use Rattle.run.specs.Answers.{answerOf}
+use Rattle.engine.proofs.Answered.{answered}
+use Rattle.engine.proofs.work.bbp_check_work_upper.Statement.{statement}
+use Rattle.engine.proofs.work.bbp_check_work_upper.Tie as tie
+
+work-requires : tie.Need-work-requires
+work-requires c κs = search needs
+
+to-c-requires : tie.Need-to-c-requires
+to-c-requires c κs = search needs
+
+same-length : tie.Need-same-length
+same-length c = search needs
+
+returns : tie.Need-returns
+returns c =
+    let work = c .before .before .before .work in
+    (answered _ (answerOf (work .result)) _ (c .to-c .ok) (c .to-c .ensures) (work .ensures .0), work .ensures .1)
+
+pub bbp-check-work-upper-spec : {M : Type 1} → statement M
+bbp-check-work-upper-spec = tie.close (tie.spec work-requires to-c-requires same-length returns)
