@@ -12,7 +12,7 @@ use Rattle.algebra.specs.Sum.{sum}
 use Rattle.series.specs.Series.{Formula, Row, Side, plus, minus, isAdded, onSide, rowSum, overRows, sideSum, termCount}
 use Rattle.series.specs.Bellard.{bellard}
 use Rattle.series.specs.Check.{check}
-use Rattle.series.proofs.Sides.{side-split, over-ext}
+use Rattle.series.proofs.Sides.{same-sign, side-split, over-ext}
 use Rattle.interval.specs.Interval.{isCharged, charges}
 use Rattle.interval.specs.Counts.{CountsAsGiven}
 
@@ -25,9 +25,9 @@ module _ (F : Formula) (side : Side) (p : ℕ) where
   column k = sideSum F side one k 1
 
   same-side : (s : Side) (r : Row) (j k : ℕ) → j % 2 ≡ k % 2 → onSide F s r j ≡ onSide F s r k
-  unfolding onSide isAdded
-  same-side plus r j k e = ap (λ (x : ℕ). cond (F .alternates) (cond (eqb x 0) (r .added) (not (r .added))) (r .added)) e
-  same-side minus r j k e = ap (λ (x : ℕ). not (cond (F .alternates) (cond (eqb x 0) (r .added) (not (r .added))) (r .added))) e
+  unfolding onSide
+  same-side plus r j k e = same-sign F r j k e
+  same-side minus r j k e = ap not (same-sign F r j k e)
 
   same-column : (j k : ℕ) → j % 2 ≡ k % 2 → column j ≡ column k
   unfolding sideSum rowSum sum isCharged

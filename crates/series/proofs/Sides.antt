@@ -1,13 +1,20 @@
--- Laws of the sums of a side: over a range of a row's terms, and over every row. Each follows the law of plain sums.
+-- The side of a term, and laws of the sums of a side: over a range of a row's terms, and over every row. Each follows the law of plain
+-- sums.
 -- Assumes nothing.
-use mathlib.Core.Path.{_≡_, refl, sym, ap₂, _∙_}
-use mathlib.Core.Bool.{Bool, true, false, cond}
+use mathlib.Core.Path.{_≡_, refl, sym, ap, ap₂, _∙_}
+use mathlib.Core.Bool.{Bool, true, false, not, cond}
 use mathlib.Core.List.{List, [], _∷_, List·Memᴰ, List·Memᴰ·head, List·Memᴰ·tail}
-use Prim.Native.Nat.{ℕ, _+_, _*_, _≤_, _<_}
+use Prim.Native.Nat.{ℕ, _+_, _*_, _%_, _≤_, _<_}
 use native.Mathlib.Nat.{le-refl, mul-zero}
 use native.Mathlib.Omega.{arith}
+use lib.Dec.{eqb}
 use Rattle.algebra.proofs.Sums.{sum-le, sum-ext, sum-add, sum-mul, sum-split}
-use Rattle.series.specs.Series.{Row, Formula, Side, rowSum, overRows, sideSum, onSide}
+use Rattle.series.specs.Series.{Row, Formula, Side, isAdded, rowSum, overRows, sideSum, onSide}
+
+-- the sign of a term depends on k being even or odd alone
+pub same-sign : (F : Formula) (r : Row) (j k : ℕ) → j % 2 ≡ k % 2 → isAdded F r j ≡ isAdded F r k
+unfolding isAdded
+same-sign F r j k e = ap (λ (x : ℕ). cond (F .alternates) (cond (eqb x 0) (r .added) (not (r .added))) (r .added)) e
 
 -- ---- a term that counts only on its side
 

@@ -1,7 +1,6 @@
 -- What the names, the rows and the numbers of the code stand for.
-use mathlib.Core.Bool.{cond}
 use Prim.Native.Nat.{ℕ}
-use Rattle.series.specs.Series.{Formula, Row, row, rise}
+use Rattle.series.specs.Series.{Formula, Row, row, rise, isAdded}
 use Rattle.series.specs.Bellard.{bellard}
 use Rattle.series.specs.Check.{check}
 use Rattle.series.specs.declared.Series.{Series}
@@ -23,8 +22,8 @@ abbrev pub numbersOf : Formula → ℕ → Row → Numbers
 numbersOf F p r = record {
   rise = rise p r;
   step = F .step;
-  turn = cond (F .alternates) 1 0;
   m = r .m;
   j = r .j;
-  added = r .added;
+  even = isAdded F r 0;
+  odd = isAdded F r 1;
 }

@@ -2,7 +2,6 @@
 use crate::Series;
 use words::Wide;
 ghost use mathlib.Core.Path.{_≡_};
-ghost use mathlib.Core.Bool.{cond};
 ghost use Prim.Native.Nat.{ℕ, _+_, _-_, _≤_, _<_};
 ghost use Rattle.words.specs.Words.{joined};
 ghost use Rattle.series.specs.Series.{Formula, Row, rowCount, rowAt, isAdded, termCount, rangeSum};
@@ -10,15 +9,15 @@ ghost use Rattle.series.specs.Series as definition;
 ghost use Rattle.series.specs.Names.{formulaOf, numbersOf};
 ghost use Rattle.series.specs.Fitting.{Position, Workable};
 
-// What the terms of a row at a position are worked by: E of term k is rise - step * k, N is m * k + j, and `turn` is 1 where the signs
-// alternate, else 0. It is set before the first term, so that no term asks for the formula.
+// What the terms of a row at a position are worked by: E of term k is rise - step * k, N is m * k + j; whether the even terms are added, and
+// the odd ones. All of it is known before the first term, so that no term asks for the formula.
 pub struct Numbers {
     pub rise: u64,
     pub step: u64,
-    pub turn: u64,
     pub m: u64,
     pub j: u64,
-    pub added: bool,
+    pub even: bool,
+    pub odd: bool,
 }
 
 // By how much E falls from one term to the next.
@@ -39,13 +38,13 @@ pub fn term_count(f: Series, p: u64) -> u64
     (4 * (p - 1) + 130) / step(f) + 1
 }
 
-// 1 where the signs of a row alternate, else 0.
-pub fn turn(f: Series) -> u64
-    ensures { λ r. ⌜ r ≡ cond (formulaOf f .alternates) 1 0 ⌝ }
+// Whether the signs of a row alternate.
+pub fn alternates(f: Series) -> bool
+    ensures { λ r. ⌜ r ≡ formulaOf f .alternates ⌝ }
 {
     match f {
-        Series::Bellard => 1,
-        Series::Check => 0,
+        Series::Bellard => true,
+        Series::Check => false,
     }
 }
 
@@ -58,10 +57,10 @@ pub fn numbers_of(f: Series, p: u64, row: u64) -> Numbers
     Numbers {
         rise: 4 * (p - 1) + r.lead,
         step: step(f),
-        turn: turn(f),
         m: r.m,
         j: r.j,
-        added: r.added,
+        even: r.added,
+        odd: r.added != alternates(f),
     }
 }
 
@@ -69,7 +68,11 @@ pub fn numbers_of(f: Series, p: u64, row: u64) -> Numbers
 pub fn is_added(numbers: Numbers, k: u64) -> bool
     ensures { λ b. ⌜ ((F : Formula) (p : ℕ) (r : Row) → numbers ≡ numbersOf F p r → b ≡ isAdded F r k) ⌝ }
 {
-    (k % 2 * numbers.turn == 0) == numbers.added
+    if k % 2 == 0 {
+        numbers.even
+    } else {
+        numbers.odd
+    }
 }
 
 // The size of term k. Where E is below 0 the size is 0.
