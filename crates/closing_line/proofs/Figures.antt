@@ -11,6 +11,7 @@ use Rattle.algebra.specs.Test.{allBelow}
 use Rattle.algebra.specs.Whole.{residue, sameℤ}
 use Rattle.series.specs.Series.{isAdded, termCount, onSide, rowSum, overRows, sideSum, modulus}
 use Rattle.series.specs.Bellard.{bellard}
+use Rattle.series.specs.declared.Series.the-variants.{Bellard}
 use Rattle.interval.specs.Interval.{isCharged, charges, low, high}
 use Rattle.interval.specs.Digits.{settledUpTo, settled, hexDigit, hexText, lowDigits}
 use Rattle.run.specs.Refusal.{refusal, answer}
@@ -32,7 +33,7 @@ full-line : (sums : ℕ → ℕ) → ((row : ℕ) → sums row < modulus) → (t
 unfolding closingLine fullLedger
 full-line sums fit total e =
     let s = fullPlain (limitsOf bellard) sums in
-    let good = good-full sums fit in
+    let good = good-full Bellard sums fit in
     ap₂ (λ (a : ℤ) (n : ℕ). lineOf a n (closeBytes bellard (fullLedger (limitsOf bellard) sums) (replicate 32 0)))
     (answer-encoded bellard s good (replicate 32 0)) (pos-encode (limitsOf bellard) s good)
     ∙ ap (lineOf (closingAnswer bellard (plainView s) (totalOf (limitsOf bellard) sums) (replicate 32 0)) 1) (bytes-encoded bellard s good (replicate 32 0))

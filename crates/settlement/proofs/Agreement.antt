@@ -1,4 +1,4 @@
--- Demand 2, for any formula whose rows fit a byte and whose positions fit 8 bytes; and for Bellard's.
+-- Demand 2, for any formula whose rows fit a byte and whose positions fit 8 bytes.
 -- Assumes nothing.
 use mathlib.Core.Path.{_≡_, refl, sym, ap, _∙_}
 use mathlib.Core.Bool.{true}
@@ -19,7 +19,7 @@ use Rattle.ticket.specs.Parts.{partSum}
 use Rattle.ticket.specs.Work.{workRefusal, workAnswer, workBytes}
 use Rattle.sheet.specs.RoundTrip.{Fits}
 use Rattle.sheet.proofs.RoundTrip.{written-reads-back, accepted-is-written}
-use Rattle.settlement.specs.Agreement.{sideOf, Worked, Agreement, Demand2}
+use Rattle.settlement.specs.Agreement.{sideOf, Worked, Demand2}
 
 -- the residue of a difference, with what was taken away put back
 residue-back : (m a b : ℕ) → 0 < m → (residue m (subℕ a b) + b) % m ≡ a % m
@@ -52,13 +52,10 @@ module _ (F : Formula) (p C row block : ℕ) where
       let z : workRefusal F p C row block out ≡ 0 = not-refused out l r t in
       record { answered = rw z refl; bytes-are = rw z refl; small = ticket-sum-lt; signed = signed }
 
-pub agreement : (F : Formula) → Fits F → Agreement F
-agreement F fits = record {
+-- Demand 2
+pub demand2 : (F : Formula) → Fits F → Demand2 F
+demand2 F fits = record {
   works = λ p C row block out. worked F p C row block out;
   reads-back = written-reads-back F fits;
   is-written = accepted-is-written F fits;
 }
-
--- Demand 2
-pub demand2 : Demand2
-demand2 = agreement _ (record { few = omega arith; near = omega arith })

@@ -1,14 +1,12 @@
--- The facts about every run, for any formula whose positions fit 8 bytes; and for Bellard's. The tables ascend by one computed test.
+-- The facts about every run, for any formula whose positions fit 8 bytes. The tables ascend by one computed test.
 -- Assumes nothing.
 use mathlib.Core.Path.{_≡_, refl, sym, ap, subst}
 use mathlib.Core.Bool.{Bool, true, false, not}
 use mathlib.Core.Logic.{_⊎_, inl, inr, ⊎-elim}
 use mathlib.Core.List.{List, [], _∷_}
 use Prim.Native.Nat.{ℕ, _^_, _<_}
-use native.Mathlib.Omega.{arith}
 use Rattle.algebra.proofs.Booleans.{and-left, and-right}
 use Rattle.series.specs.Series.{Formula}
-use Rattle.series.specs.Bellard.{bellard}
 use Rattle.run.specs.Refusal.{Test, _⇐_, refusal, ascendAbove, ascend, Smallest}
 use Rattle.run.specs.Run.{limitsOf}
 use Rattle.run.proofs.Smallest.{here, later, smallest}
@@ -19,7 +17,8 @@ use Rattle.sheet.proofs.Many.{many-refused, many-listed}
 use Rattle.sheet.proofs.Singles.{sheet-as-singles}
 use Rattle.closing.specs.Closing.{closeRefusal}
 use Rattle.settlement.proofs.Halves.{halves-make-whole}
-use Rattle.settlement.specs.Facts.{Arguments, Table, tables, allAscend, AllSmallest, ThreeOrFour, TooMany, Facts}
+use Rattle.settlement.specs.Refused.{Arguments}
+use Rattle.settlement.specs.Facts.{Table, tables, allAscend, AllSmallest, ThreeOrFour, TooMany, Facts}
 
 -- each number is that of the first test that applies
 unfoldable FirstOf : List Table → Type 0
@@ -63,6 +62,3 @@ facts F fits = record {
   too-many = too-many F;
   halves = halves-make-whole F;
 }
-
-pub bellard-facts : Facts bellard
-bellard-facts = facts bellard (omega arith)

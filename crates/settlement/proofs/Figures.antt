@@ -1,4 +1,4 @@
--- The marked figures hold, each by computation; and position 1 has the known digits of pi.
+-- The marked figures and those of check runs hold, each by computation.
 -- Assumes nothing.
 use mathlib.Core.Path.{_≡_, refl, sym, ap, _∙_}
 use mathlib.Core.Bool.{Bool, cond}
@@ -14,35 +14,47 @@ use Rattle.algebra.specs.Test.{allBelow}
 use Rattle.algebra.specs.Whole.{residue, sameℤ}
 use Rattle.series.specs.Series.{size, isAdded, termCount, onSide, rowSum, overRows, sideSum, modulus}
 use Rattle.series.specs.Bellard.{bellard}
+use Rattle.series.specs.Check.{check}
+use Rattle.series.specs.Names.{formulaOf}
+use Rattle.series.specs.declared.Series.{Series}
+use Rattle.series.specs.declared.Series.the-variants.{Bellard, Check}
 use Rattle.interval.specs.Interval.{isCharged, charges, low, high}
 use Rattle.interval.specs.Digits.{settledUpTo, settled, hexDigit, hexText, lowDigits}
 use Rattle.run.specs.Refusal.{refusal, answer}
 use Rattle.run.specs.Run.{limitsOf, isTicket}
 use Rattle.ledger.specs.Ledger.{totalOf}
-use Rattle.ledger.specs.Plain.{plainView, fullPlain, fullLedger}
+use Rattle.ledger.specs.Plain.{Plain, plainView, fullPlain, fullLedger}
 use Rattle.closing.specs.Closing.{settledAt, digitsAt, closeRefusal, closingAnswer, closingBytes, closeAnswer, closeBytes}
 use Rattle.closing.proofs.Encoded.{good-full, answer-encoded, bytes-encoded}
-use Rattle.settlement.specs.Figures.{figures, Holds, AllHold, inRow, Spreads}
+use Rattle.settlement.specs.Figures.{figures, checkFigures, Holds, AllHold, inRow, Spreads}
 
 -- the closing of a full ledger is by the total of its sums
-module _ (sums : ℕ → ℕ) (fit : (row : ℕ) → sums row < modulus) where
-  full-closing : (total : ℕ) (a : ℤ) (digits : List ℕ) → totalOf (limitsOf bellard) sums ≡ total
-      → closingAnswer bellard (plainView (fullPlain (limitsOf bellard) sums)) total (replicate 32 0) ≡ a
-      → closingBytes bellard (plainView (fullPlain (limitsOf bellard) sums)) total (replicate 32 0) ≡ digits
-      → (closeAnswer bellard (fullLedger (limitsOf bellard) sums) (replicate 32 0) ≡ a)
-      × (closeBytes bellard (fullLedger (limitsOf bellard) sums) (replicate 32 0) ≡ digits)
+module _ (f : Series) (sums : ℕ → ℕ) (fit : (row : ℕ) → sums row < modulus) where
+  abbrev full : Plain
+  full = fullPlain (limitsOf (formulaOf f)) sums
+
+  full-closing : (total : ℕ) (a : ℤ) (digits : List ℕ) → totalOf (limitsOf (formulaOf f)) sums ≡ total
+      → closingAnswer (formulaOf f) (plainView full) total (replicate 32 0) ≡ a
+      → closingBytes (formulaOf f) (plainView full) total (replicate 32 0) ≡ digits
+      → (closeAnswer (formulaOf f) (fullLedger (limitsOf (formulaOf f)) sums) (replicate 32 0) ≡ a)
+      × (closeBytes (formulaOf f) (fullLedger (limitsOf (formulaOf f)) sums) (replicate 32 0) ≡ digits)
   unfolding fullLedger
-  full-closing total a digits e f g = (
-    answer-encoded bellard (fullPlain (limitsOf bellard) sums) (good-full sums fit) (replicate 32 0)
-        ∙ ap (λ (n : ℕ). closingAnswer bellard (plainView (fullPlain (limitsOf bellard) sums)) n (replicate 32 0)) e ∙ f,
-    bytes-encoded bellard (fullPlain (limitsOf bellard) sums) (good-full sums fit) (replicate 32 0)
-        ∙ ap (λ (n : ℕ). closingBytes bellard (plainView (fullPlain (limitsOf bellard) sums)) n (replicate 32 0)) e ∙ g,
+  full-closing total a digits e k g = (
+    answer-encoded (formulaOf f) full (good-full f sums fit) (replicate 32 0)
+        ∙ ap (λ (n : ℕ). closingAnswer (formulaOf f) (plainView full) n (replicate 32 0)) e ∙ k,
+    bytes-encoded (formulaOf f) full (good-full f sums fit) (replicate 32 0)
+        ∙ ap (λ (n : ℕ). closingBytes (formulaOf f) (plainView full) n (replicate 32 0)) e ∙ g,
   )
 
-pub figures-hold : AllHold figures
+pub figures-hold : AllHold bellard figures
 unfolding AllHold Holds plainView size termCount closingAnswer closingBytes closeRefusal refusal answer settledAt digitsAt settled settledUpTo low high sameℤ allBelow isTicket charges sideSum overRows rowSum sum onSide isAdded isCharged lowDigits hexText hexDigit residue
 figures-hold =
-    (refl, (refl, (refl, (refl, (refl, ((refl, refl), ((refl, refl), (refl, (refl, (refl, (refl, (λ sums fit e. full-closing sums fit _ _ _ e refl refl, (λ sums fit e. full-closing sums fit _ _ _ e refl refl, (λ sums fit e. full-closing sums fit _ _ _ e refl refl, (λ sums fit e. full-closing sums fit _ _ _ e refl refl, tt)))))))))))))))
+    (refl, (refl, (refl, (refl, (refl, ((refl, refl), ((refl, refl), (refl, (refl, (refl, (refl, (λ sums fit e. full-closing Bellard sums fit _ _ _ e refl refl, (λ sums fit e. full-closing Bellard sums fit _ _ _ e refl refl, (λ sums fit e. full-closing Bellard sums fit _ _ _ e refl refl, (λ sums fit e. full-closing Bellard sums fit _ _ _ e refl refl, tt)))))))))))))))
+
+pub check-figures-hold : AllHold check checkFigures
+unfolding AllHold Holds plainView size termCount closingAnswer closingBytes closeRefusal refusal answer settledAt digitsAt settled settledUpTo low high sameℤ allBelow isTicket charges sideSum overRows rowSum sum onSide isAdded isCharged lowDigits hexText hexDigit residue
+check-figures-hold =
+    ((refl, refl), ((refl, refl), ((refl, refl), ((refl, refl), ((refl, refl), ((refl, refl), (refl, (refl, (refl, (refl, (λ sums fit e. full-closing Check sums fit _ _ _ e refl refl, (λ sums fit e. full-closing Check sums fit _ _ _ e refl refl, (λ sums fit e. full-closing Check sums fit _ _ _ e refl refl, (λ sums fit e. full-closing Check sums fit _ _ _ e refl refl, tt))))))))))))))
 
 -- ---- sums with a given total
 

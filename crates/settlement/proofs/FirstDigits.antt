@@ -1,5 +1,5 @@
 -- What demand 3 gives at a position that can be worked out: every list that fills the run closes with known digits. At position 1 these
--- are the first thirty hexadecimal digits of pi.
+-- are the first hexadecimal digits of pi, thirty by Bellard's formula, and twenty-nine of them by the check runs'.
 -- Assumes nothing.
 use mathlib.Core.Path.{_≡_, refl, ap, _∙_, subst}
 use mathlib.Core.List.{List, _++_}
@@ -7,14 +7,15 @@ use Prim.Native.Nat.{ℕ, _<_}
 use native.Mathlib.Nat.{le-refl}
 use native.Mathlib.Omega.{arith}
 use lib.IntN.{ℤ, pos}
-use lib.ListN.{drop}
+use lib.ListN.{take, drop}
 use Rattle.algebra.specs.Sum.{sum}
 use Rattle.algebra.specs.Whole.{residue, sameℤ}
 use Rattle.series.specs.Series.{Formula, size, isAdded, termCount, onSide, rowSum, overRows, sideSum, sizesSum}
-use Rattle.series.specs.Bellard.{bellard}
-use Rattle.interval.specs.Interval.{isCharged, charges, low, high, Positive, RestBelowUnit, Greatest}
+use Rattle.series.specs.Names.{formulaOf}
+use Rattle.series.specs.declared.Series.{Series}
+use Rattle.series.specs.declared.Series.the-variants.{Bellard, Check}
+use Rattle.interval.specs.Interval.{isCharged, charges, low, high, Greatest}
 use Rattle.interval.specs.Digits.{settledUpTo, settled, hexDigit, hexText, lowDigits}
-use Rattle.interval.proofs.Bellard.{positive, bellard-rest}
 use Rattle.interval.proofs.Denominator.{whole-exists}
 use Rattle.interval.proofs.Digits.{settled-greatest}
 use Rattle.interval.proofs.Settling.{shared-digits}
@@ -23,13 +24,14 @@ use Rattle.run.proofs.Range.{range-of}
 use Rattle.ledger.specs.Ledger.{fresh}
 use Rattle.sheet.specs.Posts.{postsBytes}
 use Rattle.closing.specs.Closing.{lowOf, highOf, settledAt, digitsAt, closeAnswer, closeBytes}
-use Rattle.settlement.specs.Settlement.{Closed, ClosesWith, Demand, finalTotal}
-use Rattle.settlement.specs.Figures.{firstDigits}
+use Rattle.settlement.specs.Settlement.{Closed, ClosesWith, finalTotal}
+use Rattle.settlement.specs.Figures.{firstDigits, FirstDigits}
+use Rattle.settlement.specs.Runs.{Asked}
 use Rattle.settlement.proofs.Partition.{all-tickets}
-use Rattle.settlement.proofs.Theorem.{demand3}
+use Rattle.settlement.proofs.Runs.{every-formula, asked}
 
-module _ (F : Formula) (demand : Demand F) (above : Positive F) (rest : (p : ℕ) → RestBelowUnit F p (termCount F p)) (p d : ℕ)
-    (digits : List ℕ) (some : 0 < d) (count-is : settledAt F p (sizesSum F p (termCount F p)) ≡ d)
+module _ (F : Formula) (premises : Asked F) (p d : ℕ) (digits : List ℕ) (some : 0 < d)
+    (count-is : settledAt F p (sizesSum F p (termCount F p)) ≡ d)
     (digits-are : digitsAt F p (sizesSum F p (termCount F p)) d ≡ digits) where
   K : ℕ
   K = termCount F p
@@ -48,30 +50,31 @@ module _ (F : Formula) (demand : Demand F) (above : Positive F) (rest : (p : ℕ
   exact-digits : (s out : List ℕ) → Closed F p lo hi s out → (closeAnswer F s out ≡ pos d) × (closeBytes F s out ≡ digits ++ drop d out)
   unfolding digitsAt lo hi K
   exact-digits s out c =
-      let w = whole-exists F p K above in
+      let w = whole-exists F p K (premises .positive) in
       let r = c .settled d greatest in (
         r .0,
         r .1 (w .0) K (w .1) (le-refl K) (w .2)
             ∙ ap (λ (l : List ℕ). l ++ drop d out)
-            (shared-digits F p K above (rest p) d (greatest .settles) (w .0) K (w .1) (le-refl K) (w .2) ∙ digits-are),
+            (shared-digits F p K (premises .positive) (premises .rest p) d (greatest .settles) (w .0) K (w .1) (le-refl K) (w .2) ∙ digits-are),
       )
 
   pub closes-with : ClosesWith F p d digits
   unfolding lo hi K
   closes-with C range posts f out room =
-      let s = demand p C range posts in
+      let s = every-formula F premises .demand3 p C range posts in
       let r = range-of (limitsOf F) p C range in
       let e : finalTotal F p C posts ≡ sizesSum F p K = s .total f ∙ all-tickets F p C (r .C-low) in
       exact-digits (postsBytes (limitsOf F) (fresh (limitsOf F) p C) posts) out
       (subst (λ (t : ℕ). Closed F p (lowOf F p t) (highOf F p t) (postsBytes (limitsOf F) (fresh (limitsOf F) p C) posts) out) e (s .closing f out room))
 
-count-at-1 : settledAt bellard 1 (sizesSum bellard 1 (termCount bellard 1)) ≡ 30
-unfolding settledAt sizesSum size termCount settled settledUpTo low high sameℤ charges sideSum overRows rowSum sum onSide isAdded isCharged residue
-count-at-1 = refl
+-- at position 1, worked out by antt from the rows of either formula
+at-1 : (f : Series) (d : ℕ) (digits : List ℕ) → 0 < d → settledAt (formulaOf f) 1 (sizesSum (formulaOf f) 1 (termCount (formulaOf f) 1)) ≡ d
+    → digitsAt (formulaOf f) 1 (sizesSum (formulaOf f) 1 (termCount (formulaOf f) 1)) d ≡ digits → ClosesWith (formulaOf f) 1 d digits
+at-1 f d digits = closes-with (formulaOf f) (asked f) 1 d digits
 
-digits-at-1 : digitsAt bellard 1 (sizesSum bellard 1 (termCount bellard 1)) 30 ≡ firstDigits
-unfolding digitsAt sizesSum size termCount low charges sideSum overRows rowSum sum onSide isAdded isCharged residue lowDigits hexText hexDigit
-digits-at-1 = refl
-
-pub first-digits : ClosesWith bellard 1 30 firstDigits
-first-digits = closes-with bellard demand3 positive bellard-rest 1 30 firstDigits (omega arith) count-at-1 digits-at-1
+pub first-digits : FirstDigits
+unfolding settledAt digitsAt sizesSum size termCount settled settledUpTo low high sameℤ charges sideSum overRows rowSum sum onSide isAdded isCharged residue lowDigits hexText hexDigit
+first-digits = record {
+  by-bellard = at-1 Bellard 30 firstDigits (omega arith) refl refl;
+  by-check = at-1 Check 29 (take 29 firstDigits) (omega arith) refl refl;
+}

@@ -1,5 +1,5 @@
 -- The halves of a ticket make the whole, for any formula: the ticket's range is cut in two. Each half has at most half of K terms, rounded up,
--- so that for Bellard's formula 58 cuts one inside the other are enough, and at the last position no fewer.
+-- which says how many cuts one inside the other are enough: 58 for Bellard's formula, 59 for the check runs', and at the last position no fewer.
 -- Assumes nothing.
 use mathlib.Core.Path.{_≡_, sym, ap, ap₂, _∙_}
 use mathlib.Core.Bool.{true}
@@ -16,6 +16,7 @@ use Rattle.words.proofs.Bytes.{value-bytes}
 use Rattle.series.specs.Series.{Formula, Row, rowAt, termCount, rangeSum, modulus}
 use Rattle.series.specs.Halves.{byHalves}
 use Rattle.series.specs.Bellard.{bellard}
+use Rattle.series.specs.Check.{check}
 use Rattle.series.proofs.Numbers.{count-grows}
 use Rattle.series.proofs.RangeSums.{range-sum-lt, split}
 use Rattle.series.proofs.ByHalves.{same-sum}
@@ -27,7 +28,7 @@ use Rattle.ticket.specs.Parts.{cut, partSum}
 use Rattle.ticket.specs.Work.{workRefusal, workAnswer, workBytes}
 use Rattle.ticket.specs.declared.Part.{Part}
 use Rattle.ticket.specs.declared.Part.the-variants.{Whole, Lower, Upper}
-use Rattle.settlement.specs.Halves.{HalvesMakeWhole, HalvedWithin, BellardDepth}
+use Rattle.settlement.specs.Halves.{HalvesMakeWhole, HalvedWithin, Depths}
 
 module _ (F : Formula) (p C row block : ℕ) where
   abbrev first : ℕ
@@ -105,6 +106,9 @@ halved-within F depth s h = record {
     by-halves : (F : Formula) (p : ℕ) (r : Row) (first count depth : ℕ) → count ≤ 2 ^ depth → byHalves F p r depth first count ≡ rangeSum F p r first count
     by-halves F p r first count depth h = same-sum .by-halves F p r first count depth h ∙ same-sum .in-order F p r first count
 
-pub bellard-depth : BellardDepth
+pub depths : Depths
 unfolding cut bound termCount
-bellard-depth = (halved-within bellard _ (omega arith) (omega arith), lit< tt)
+depths = (
+  record { enough = halved-within bellard _ (omega arith) (omega arith); not-less = lit< tt },
+  record { enough = halved-within check _ (omega arith) (omega arith); not-less = lit< tt },
+)

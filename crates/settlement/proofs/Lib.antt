@@ -8,3 +8,5 @@ pub mod FirstDigits
 pub mod Agreement
 pub mod Halves
 pub mod Facts
+pub mod Refused
+pub mod Runs

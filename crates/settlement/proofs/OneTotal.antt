@@ -11,7 +11,6 @@ use lib.Dec.{eqb}
 use lib.IntN.{ℤ}
 use Rattle.algebra.proofs.Sums.{sum-zero, sum-bump-rem}
 use Rattle.series.specs.Series.{Formula, modulus}
-use Rattle.series.specs.Bellard.{bellard}
 use Rattle.run.specs.Refusal.{answer}
 use Rattle.run.specs.Run.{Limits, limitsOf, inRange}
 use Rattle.run.proofs.Range.{ticket-row}
@@ -23,7 +22,7 @@ use Rattle.sheet.specs.Posts.{Post, postRefusal, postEntries, plainPost, plainP
 use Rattle.sheet.proofs.Simulation.{Ready, good-opened, posts-good, post-ready, ledger-is, answers-are}
 use Rattle.closing.specs.Closing.{closingAnswer, closingBytes, closeAnswer, closeBytes}
 use Rattle.closing.proofs.Encoded.{answer-encoded, bytes-encoded}
-use Rattle.settlement.specs.OneTotal.{OneTotal, oneOpened, oneView, oneAdmit, onePost, onePosts, oneAnswers, oneCloseAnswer, oneCloseBytes, SameAsOne, SameTotal, AsBefore, DigitsAsBefore}
+use Rattle.settlement.specs.OneTotal.{OneTotal, oneOpened, oneView, oneAdmit, onePost, onePosts, oneAnswers, oneCloseAnswer, oneCloseBytes, SameAsOne, SameTotal, AsBefore}
 
 -- ---- the total, with x added to the sum of a row
 
@@ -121,9 +120,6 @@ module _ (F : Formula) (fits : F .last < 2 ^ 64) where
         ap₂ (λ (v : View) (n : ℕ). closingBytes F v n digits) seen (same .same-total),
       )
 
+  -- Digits come out as before
   pub as-before : AsBefore F
   as-before = record { same-as-one = same-as-one; by-total = by-total }
-
--- Digits come out as before
-pub digits-as-before : DigitsAsBefore
-digits-as-before = as-before bellard (omega arith)

@@ -12,13 +12,11 @@ use lib.ListN.{length, drop}
 use Rattle.algebra.specs.Whole.{quotient}
 use Rattle.algebra.proofs.Below.{all-true}
 use Rattle.series.specs.Series.{Formula, rowCount, termCount, sizesSum}
-use Rattle.series.specs.Bellard.{bellard}
 use Rattle.interval.specs.Exact.{MakesWhole, exactSum}
 use Rattle.interval.specs.Interval.{LiesFrom, Positive, RestBelowUnit, Settles, unitAt}
 use Rattle.interval.specs.Digits.{settled, lowDigits}
 use Rattle.interval.proofs.Settling.{lies-from, shared-digits}
 use Rattle.interval.proofs.Digits.{greatest, none-settled, settled-none, one-outcome}
-use Rattle.interval.proofs.Bellard.{positive, bellard-rest}
 use Rattle.run.specs.Refusal.{refusal, answer}
 use Rattle.run.specs.Run.{limitsOf, inRange}
 use Rattle.run.proofs.Range.{range-of, is-ticket}
@@ -118,7 +116,7 @@ module _ (F : Formula) (fits : F .last < 2 ^ 64) (above : Positive F) (rest : (p
   unfolding openAnswer openBytes openRefusal refusal answer
   opens-fresh s h = rw (h, eq-eqb (ledgerSize (limitsOf F)) (ledgerSize (limitsOf F)) refl, range) (refl, refl)
 
-  pub settlement : (posts : List Post) → Settled F p C posts
+  settlement : (posts : List Post) → Settled F p C posts
   unfolding lo hi bytes
   settlement posts =
       let lim = limitsOf F in
@@ -145,5 +143,5 @@ module _ (F : Formula) (fits : F .last < 2 ^ 64) (above : Positive F) (rest : (p
       }
 
 -- Demand 3
-pub demand3 : Demand3
-demand3 p C range posts = settlement bellard (omega arith) positive bellard-rest p C range posts
+pub demand3 : (F : Formula) → F .last < 2 ^ 64 → Positive F → ((p : ℕ) → RestBelowUnit F p (termCount F p)) → Demand3 F
+demand3 F fits above rest p C range posts = settlement F fits above rest p C range posts

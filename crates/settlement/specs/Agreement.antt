@@ -1,4 +1,4 @@
--- Demand 2: the sum of a ticket; sheets written and read back; sheets accepted with right sums. Over the definitions that the calls'
+-- Demand 2, for a formula: the sum of a ticket; sheets written and read back; sheets accepted with right sums. Over the definitions that the calls'
 -- contracts cite.
 use mathlib.Core.Path.{_≡_}
 use mathlib.Core.Bool.{true}
@@ -8,7 +8,6 @@ use lib.IntN.{pos}
 use lib.ListN.{length}
 use Rattle.words.specs.Bytes.{bytesOf}
 use Rattle.series.specs.Series.{Formula, Side, plus, minus, rowAt, rowSum, size, termCount, modulus}
-use Rattle.series.specs.Bellard.{bellard}
 use Rattle.run.specs.Run.{limitsOf, inRange, isTicket, bound, ticketSum}
 use Rattle.ticket.specs.Work.{workAnswer, workBytes}
 use Rattle.ticket.specs.declared.Part.the-variants.{Whole}
@@ -28,14 +27,11 @@ pub record Worked (F : Formula) (p C row block : ℕ) (out : List ℕ) : Type 0 
   pub small : ticketSum F p C row block < modulus
   pub signed : (ticketSum F p C row block + sideOf F minus p C row block) % modulus ≡ sideOf F plus p C row block % modulus
 
-pub record Agreement (F : Formula) : Type 0 where
+-- Demand 2
+pub record Demand2 (F : Formula) : Type 0 where
   pub works : (p C row block : ℕ) (out : List ℕ) → length out ≡ 16 → inRange (limitsOf F) p C ≡ true
       → isTicket (limitsOf F) C row block ≡ true → Worked F p C row block out
   -- a sheet written reads back as the same tickets and sums
   pub reads-back : WrittenReadsBack F
   -- one accepted with right sums is byte for byte the one written
   pub is-written : AcceptedIsWritten F
-
--- Demand 2
-abbrev pub Demand2 : Type 0
-Demand2 = Agreement bellard

@@ -15,21 +15,10 @@ use Rattle.sheet.specs.Sheet.{sheetBlocks, sheetCount}
 use Rattle.sheet.specs.Calls.{writeTests, writeRefusal, readTests, readRefusal, sheetTests, sheetRefusal}
 use Rattle.sheet.specs.Posts.{OneByOne}
 use Rattle.closing.specs.Closing.{closeTests, closeRefusal}
+use Rattle.settlement.specs.Refused.{Arguments}
 use Rattle.settlement.specs.Halves.{HalvesMakeWhole}
 
 -- ---- the smallest number that applies
-
--- Numbers and slices that a call is handed, of any value and any length.
-pub record Arguments : Type 0 where
-  pub p : ℕ
-  pub C : ℕ
-  pub row : ℕ
-  pub block : ℕ
-  pub ledger : List ℕ
-  pub sheet : List ℕ
-  pub list : List ℕ
-  pub sums : List ℕ
-  pub digits : List ℕ
 
 -- A call's tests, and the number that it refuses by (0 where it does not).
 pub record Table : Type 0 where

@@ -1,17 +1,20 @@
--- The marked figures of document 01 that are theorems about the definitions, in one statement over the list of them.
+-- The marked figures of document 01 that are theorems about the definitions, in one statement over the list of them; and the like of check
+-- runs (document 02, slip 4), which no document gives.
 use mathlib.Core.Bool.{Bool, true, false, cond}
 use mathlib.Core.Path.{_≡_}
 use mathlib.Core.List.{List, [], _∷_, _++_}
 use Prim.Native.Nat.{ℕ, _-_, _+_, _^_, _<_}
 use lib.Dec.{eqb}
 use lib.IntN.{ℤ, pos, negℤ}
-use lib.ListN.{getD, replicate}
-use Rattle.series.specs.Series.{rowAt, size, isAdded, termCount, modulus}
+use lib.ListN.{getD, take, replicate}
+use Rattle.series.specs.Series.{Formula, rowAt, size, isAdded, termCount, modulus}
 use Rattle.series.specs.Bellard.{bellard}
+use Rattle.series.specs.Check.{check}
 use Rattle.run.specs.Run.{limitsOf}
 use Rattle.ledger.specs.Ledger.{totalOf}
 use Rattle.ledger.specs.Plain.{fullLedger}
 use Rattle.closing.specs.Closing.{closeAnswer, closeBytes}
+use Rattle.settlement.specs.Settlement.{ClosesWith}
 
 -- A figure, with what the document gives for it.
 pub data Figure : Type 0 where
@@ -24,19 +27,18 @@ pub data Figure : Type 0 where
   -- what closing answers, and what 32 zero bytes become: p = 1, C = 1, all marked, with sums of the rows, any at all, that have this total
   closingOf : ℕ → ℤ → List ℕ → Figure
 
-unfoldable pub Holds : Figure → Type 0
-Holds (sizeOf p row k q) = size bellard p (rowAt bellard row) k ≡ q
-Holds (signedSizeOf p row k added q) =
-    (size bellard p (rowAt bellard row) k ≡ q) × (isAdded bellard (rowAt bellard row) k ≡ added)
-Holds (countAt p K) = termCount bellard p ≡ K
-Holds (closingOf total a digits) =
-    (sums : ℕ → ℕ) → ((row : ℕ) → sums row < modulus) → totalOf (limitsOf bellard) sums ≡ total
-    → (closeAnswer bellard (fullLedger (limitsOf bellard) sums) (replicate 32 0) ≡ a)
-    × (closeBytes bellard (fullLedger (limitsOf bellard) sums) (replicate 32 0) ≡ digits)
+unfoldable pub Holds : Formula → Figure → Type 0
+Holds F (sizeOf p row k q) = size F p (rowAt F row) k ≡ q
+Holds F (signedSizeOf p row k added q) = (size F p (rowAt F row) k ≡ q) × (isAdded F (rowAt F row) k ≡ added)
+Holds F (countAt p K) = termCount F p ≡ K
+Holds F (closingOf total a digits) =
+    (sums : ℕ → ℕ) → ((row : ℕ) → sums row < modulus) → totalOf (limitsOf F) sums ≡ total
+    → (closeAnswer F (fullLedger (limitsOf F) sums) (replicate 32 0) ≡ a)
+    × (closeBytes F (fullLedger (limitsOf F) sums) (replicate 32 0) ≡ digits)
 
-unfoldable pub AllHold : List Figure → Type 0
-AllHold [] = Unit {0}
-AllHold (f ∷ fs) = Holds f × AllHold fs
+unfoldable pub AllHold : Formula → List Figure → Type 0
+AllHold F [] = Unit {0}
+AllHold F (f ∷ fs) = Holds F f × AllHold F fs
 
 abbrev pub figures : List Figure
 figures =
@@ -47,11 +49,26 @@ figures =
     ∷ closingOf 49 (negℤ (pos 9)) (replicate 32 0) ∷ closingOf 50 (pos 30) (replicate 30 48 ++ 0 ∷ 0 ∷ [])
     ∷ closingOf (2 ^ 128 - 51) (pos 30) (replicate 30 70 ++ 0 ∷ 0 ∷ []) ∷ closingOf (2 ^ 128 - 50) (negℤ (pos 9)) (replicate 32 0) ∷ []
 
+-- Check runs: the first terms of the four rows at position 1, a term with odd k that keeps its row's sign, the last terms whose size is not 0,
+-- K at the first and the last position, and closings by a = 33 and b = 99.
+abbrev pub checkFigures : List Figure
+checkFigures =
+    signedSizeOf 1 0 0 true 0 ∷ signedSizeOf 1 1 0 false (2 ^ 127) ∷ signedSizeOf 1 2 0 false 0x33333333333333333333333333333333
+    ∷ signedSizeOf 1 3 0 false 0x2aaaaaaaaaaaaaaaaaaaaaaaaaaaaaaa ∷ signedSizeOf 1 0 1 true 0x71c71c71c71c71c71c71c71c71c71c7 ∷ signedSizeOf 1 1 1 false 0x2aaaaaaaaaaaaaaaaaaaaaaaaaaaaaa
+    ∷ sizeOf 1 1 30 2 ∷ sizeOf 1 1 31 0 ∷ countAt 1 33 ∷ countAt (2 ^ 59) 576460752303423520
+    ∷ closingOf 99 (negℤ (pos 9)) (replicate 32 0) ∷ closingOf 100 (pos 30) (replicate 30 48 ++ 0 ∷ 0 ∷ [])
+    ∷ closingOf (2 ^ 128 - 35) (pos 30) (replicate 30 70 ++ 0 ∷ 0 ∷ []) ∷ closingOf (2 ^ 128 - 34) (negℤ (pos 9)) (replicate 32 0) ∷ []
+
 -- 243F6A8885A308D313198A2E037073, the first thirty hexadecimal digits of pi after the point
 abbrev pub firstDigits : List ℕ
 firstDigits =
     50 ∷ 52 ∷ 51 ∷ 70 ∷ 54 ∷ 65 ∷ 56 ∷ 56 ∷ 56 ∷ 53 ∷ 65 ∷ 51 ∷ 48 ∷ 56 ∷ 68 ∷ 51 ∷ 49 ∷ 51 ∷ 49 ∷ 57 ∷ 56 ∷ 65 ∷ 50 ∷ 69 ∷ 48 ∷ 51 ∷ 55 ∷ 48 ∷ 55
     ∷ 51 ∷ []
+
+-- At position 1 every list that fills the run closes with these: with all thirty by Bellard's formula, with twenty-nine by the check runs'.
+pub record FirstDigits : Type 0 where
+  pub by-bellard : ClosesWith bellard 1 30 firstDigits
+  pub by-check : ClosesWith check 1 29 (take 29 firstDigits)
 
 -- ---- sums with a given total, so that each of these closings is of some ledger
 

@@ -8,6 +8,7 @@ use lib.IntN.{pos}
 use Rattle.words.specs.Bytes.{valueOf}
 use Rattle.series.specs.Series.{Formula, rowAt, termCount, modulus}
 use Rattle.series.specs.Bellard.{bellard}
+use Rattle.series.specs.Check.{check}
 use Rattle.series.specs.Halves.{byHalves}
 use Rattle.run.specs.Run.{limitsOf, inRange, isTicket, bound}
 use Rattle.ticket.specs.Parts.{cut, partSum}
@@ -33,6 +34,11 @@ pub record HalvedWithin (F : Formula) (depth : ℕ) : Type 0 where
       → let end = bound (termCount F p) C (block + 1) in
       byHalves F p (rowAt F row) depth (cut F p C block) (end - cut F p C block) ≡ partSum F Upper p C row block
 
--- For Bellard's formula 58 are enough; at the last position with one block 57 are not, since a half has more than 2 ^ 57 terms.
-abbrev pub BellardDepth : Type 0
-BellardDepth = HalvedWithin bellard 58 × (2 ^ 57 < cut bellard (2 ^ 60) 1 0)
+-- So many are enough, and at the last position with one block one less are not, since a half has more than 2 ^ less terms.
+pub record Deepest (F : Formula) (less : ℕ) : Type 0 where
+  pub enough : HalvedWithin F (less + 1)
+  pub not-less : 2 ^ less < cut F (F .last) 1 0
+
+-- 58 for Bellard's formula, 59 for the check runs'
+abbrev pub Depths : Type 0
+Depths = Deepest bellard 57 × Deepest check 58

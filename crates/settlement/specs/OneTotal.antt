@@ -7,7 +7,6 @@ use Prim.Native.Nat.{ℕ, _+_, _%_}
 use lib.Dec.{eqb}
 use lib.IntN.{ℤ}
 use Rattle.series.specs.Series.{Formula, modulus}
-use Rattle.series.specs.Bellard.{bellard}
 use Rattle.run.specs.Refusal.{answer}
 use Rattle.run.specs.Run.{Limits, limitsOf, inRange}
 use Rattle.ledger.specs.Ledger.{View, fresh, posIn, blocksIn, totalIn, markIn}
@@ -75,11 +74,9 @@ pub record SameTotal (lim : Limits) (s t : List ℕ) : Type 0 where
   pub same-marks : (row block : ℕ) → markIn lim s row block ≡ markIn lim t row block
   pub same-total : totalIn lim s ≡ totalIn lim t
 
+-- Digits come out as before
 pub record AsBefore (F : Formula) : Type 0 where
   pub same-as-one : (p C : ℕ) → inRange (limitsOf F) p C ≡ true → (posts : List Post) → SameAsOne F p C posts
   -- a closing depends on a ledger through run, marks and total alone
   pub by-total : (s t : List ℕ) → SameTotal (limitsOf F) s t → (digits : List ℕ)
       → (closeAnswer F s digits ≡ closeAnswer F t digits) × (closeBytes F s digits ≡ closeBytes F t digits)
-
-abbrev pub DigitsAsBefore : Type 0
-DigitsAsBefore = AsBefore bellard

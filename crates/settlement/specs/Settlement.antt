@@ -9,7 +9,6 @@ use lib.ListN.{length, drop}
 use Rattle.algebra.specs.Sum.{sum}
 use Rattle.algebra.specs.Whole.{quotient}
 use Rattle.series.specs.Series.{Formula, rowCount, termCount, modulus}
-use Rattle.series.specs.Bellard.{bellard}
 use Rattle.interval.specs.Exact.{MakesWhole, exactSum}
 use Rattle.interval.specs.Interval.{LiesFrom, unitAt, Greatest, NoneSettled, OneOutcome}
 use Rattle.interval.specs.Digits.{lowDigits}
@@ -74,13 +73,9 @@ pub record Settled (F : Formula) (p C : ℕ) (posts : List Post) : Type 0 where
       → Closed F p (lowOf F p (finalTotal F p C posts)) (highOf F p (finalTotal F p C posts))
       (postsBytes (limitsOf F) (fresh (limitsOf F) p C) posts) out
 
--- every run of a formula, every list of posts
-abbrev pub Demand : Formula → Type 0
-Demand F = (p C : ℕ) → inRange (limitsOf F) p C ≡ true → (posts : List Post) → Settled F p C posts
-
--- Demand 3
-abbrev pub Demand3 : Type 0
-Demand3 = Demand bellard
+-- Demand 3, for a formula: every run, every list of posts
+abbrev pub Demand3 : Formula → Type 0
+Demand3 F = (p C : ℕ) → inRange (limitsOf F) p C ≡ true → (posts : List Post) → Settled F p C posts
 
 -- Every list that fills a run at position p closes with d digits, and with these.
 abbrev pub ClosesWith : Formula → ℕ → ℕ → List ℕ → Type 0

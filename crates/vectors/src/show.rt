@@ -46,38 +46,47 @@ fn refusal(r: Refusal) {
     }
 }
 
-fn count_at(p: u64) {
-    if !run::in_range(Series::Bellard, p, 1) {
-        return;
+// The kind of a line; those of check runs have names of their own.
+fn kind(f: Series, name: &[u8]) {
+    match f {
+        Series::Bellard => {}
+        Series::Check => text(b"check-"),
     }
-    number(series::terms::term_count(Series::Bellard, p));
+    text(name);
 }
 
-fn bounds_of(p: u64, c: u64, i: u64) {
-    if !run::in_range(Series::Bellard, p, c) {
+fn count_at(f: Series, p: u64) {
+    if !run::in_range(f, p, 1) {
+        return;
+    }
+    number(series::terms::term_count(f, p));
+}
+
+fn bounds_of(f: Series, p: u64, c: u64, i: u64) {
+    if !run::in_range(f, p, c) {
         return;
     }
     if c <= i {
         return;
     }
-    let count = series::terms::term_count(Series::Bellard, p);
+    let count = series::terms::term_count(f, p);
     number(ticket::bound(count, c, i));
     number(ticket::bound(count, c, i + 1));
 }
 
-fn size_of(p: u64, row: u64, k: u64) {
-    if !run::in_range(Series::Bellard, p, 1) {
+fn size_of(f: Series, p: u64, row: u64, k: u64) {
+    if !run::in_range(f, p, 1) {
         return;
     }
-    if !run::is_ticket(Series::Bellard, 1, row, 0) {
+    if !run::is_ticket(f, 1, row, 0) {
         return;
     }
-    if series::terms::term_count(Series::Bellard, p) <= k {
+    if series::terms::term_count(f, p) <= k {
         return;
     }
-    let numbers = series::rows::row_at(Series::Bellard, row);
-    sign(series::terms::is_added(Series::Bellard, numbers, k));
-    wide(series::terms::size(Series::Bellard, p, numbers, k));
+    let numbers = series::terms::numbers_of(f, p, row);
+    sign(series::terms::is_added(numbers, k));
+    wide(series::terms::size(numbers, k));
 }
 
 fn quotient_of(e: u64, n: u64) {
@@ -92,39 +101,39 @@ fn quotient_of(e: u64, n: u64) {
     }
 }
 
-fn sum_of(part: Part, p: u64, c: u64, row: u64, block: u64) {
+fn sum_of(f: Series, part: Part, p: u64, c: u64, row: u64, block: u64) {
     let mut sum = [0u8; 16];
-    match ticket::work(Series::Bellard, part, p, c, row, block, &mut sum) {
+    match ticket::work(f, part, p, c, row, block, &mut sum) {
         Answer::Finished(_) => bytes(&sum),
         Answer::Refused(r) => refusal(r),
     }
 }
 
 // K at position p.
-pub fn count(p: u64) {
-    text(b"count");
+pub fn count(f: Series, p: u64) {
+    kind(f, b"count");
     number(p);
-    count_at(p);
+    count_at(f, p);
     text(b"\n");
 }
 
 // The bounds of block i of c.
-pub fn block(p: u64, c: u64, i: u64) {
-    text(b"block");
+pub fn block(f: Series, p: u64, c: u64, i: u64) {
+    kind(f, b"block");
     number(p);
     number(c);
     number(i);
-    bounds_of(p, c, i);
+    bounds_of(f, p, c, i);
     text(b"\n");
 }
 
 // The sign and the size of term k.
-pub fn term(p: u64, row: u64, k: u64) {
-    text(b"term");
+pub fn term(f: Series, p: u64, row: u64, k: u64) {
+    kind(f, b"term");
     number(p);
     number(row);
     number(k);
-    size_of(p, row, k);
+    size_of(f, p, row, k);
     text(b"\n");
 }
 
@@ -137,23 +146,23 @@ pub fn quotient(e: u64, n: u64) {
     text(b"\n");
 }
 
-fn part(name: &[u8], part: Part, p: u64, c: u64, row: u64, block: u64) {
-    text(name);
+fn part(f: Series, name: &[u8], part: Part, p: u64, c: u64, row: u64, block: u64) {
+    kind(f, name);
     number(p);
     number(c);
     number(row);
     number(block);
-    sum_of(part, p, c, row, block);
+    sum_of(f, part, p, c, row, block);
     text(b"\n");
 }
 
 // The 16 bytes of a ticket's sum, or the refusal.
-pub fn ticket(p: u64, c: u64, row: u64, block: u64) {
-    part(b"ticket", Part::Whole, p, c, row, block);
+pub fn ticket(f: Series, p: u64, c: u64, row: u64, block: u64) {
+    part(f, b"ticket", Part::Whole, p, c, row, block);
 }
 
 // The same of its halves, the lower one first.
-pub fn halves(p: u64, c: u64, row: u64, block: u64) {
-    part(b"lower", Part::Lower, p, c, row, block);
-    part(b"upper", Part::Upper, p, c, row, block);
+pub fn halves(f: Series, p: u64, c: u64, row: u64, block: u64) {
+    part(f, b"lower", Part::Lower, p, c, row, block);
+    part(f, b"upper", Part::Upper, p, c, row, block);
 }

@@ -21,7 +21,6 @@ use Rattle.series.specs.Series.{modulus, size, isAdded, termCount, onSide, rowS
 use Rattle.series.specs.Bellard.{bellard}
 use Rattle.interval.specs.Interval.{isCharged, charges, low, high}
 use Rattle.interval.specs.Digits.{settledUpTo, settled, hexDigit, hexText, lowDigits}
-use Rattle.interval.proofs.Bellard.{positive, bellard-rest}
 use Rattle.run.specs.Refusal.{_⇐_, refusal, answer}
 use Rattle.run.proofs.Answering as answering
 use Rattle.run.specs.Run.{inRange, isTicket, bound, ticketSum}
@@ -37,7 +36,7 @@ use Rattle.sheet.proofs.Simulation.{good-opened, posts-good}
 use Rattle.closing.specs.Closing.{settledAt, digitsAt, closeRefusal, closingAnswer, closingBytes, closeAnswer, closeBytes}
 use Rattle.settlement.specs.Settlement.{Filled, ClosesWith, rowSums, allSums}
 use Rattle.settlement.specs.Figures.{firstDigits}
-use Rattle.settlement.proofs.Theorem.{demand3}
+use Rattle.settlement.proofs.Runs.{runs}
 use Rattle.settlement.proofs.Filling.{kept-posts, kept-opened}
 use Rattle.settlement.proofs.Filler.{filled-exists}
 use Rattle.settlement.proofs.FirstDigits.{closes-with, first-digits}
@@ -58,7 +57,7 @@ unfolding digitsAt sizesSum size termCount low charges sideSum overRows rowSum s
 digits-at-5 = refl
 
 fifth-digits : ClosesWith bellard 5 29 fifthDigits
-fifth-digits = closes-with bellard demand3 positive bellard-rest 5 29 fifthDigits (omega arith) count-at-5 digits-at-5
+fifth-digits = closes-with bellard (runs .bellard-asked) 5 29 fifthDigits (omega arith) count-at-5 digits-at-5
 
 -- ---- a list that fills the run of one block at each of the two positions
 
@@ -77,7 +76,7 @@ zeros = replicate 32 0
 
 at-1 : (closeAnswer bellard (ledger 1) zeros ≡ pos 30) × (closeBytes bellard (ledger 1) zeros ≡ firstDigits ++ drop 30 zeros)
 unfolding ledger zeros inRange
-at-1 = first-digits 1 refl (posts 1) (filled 1) zeros refl
+at-1 = first-digits .by-bellard 1 refl (posts 1) (filled 1) zeros refl
 
 at-5 : (closeAnswer bellard (ledger 5) zeros ≡ pos 29) × (closeBytes bellard (ledger 5) zeros ≡ fifthDigits ++ drop 29 zeros)
 unfolding ledger zeros inRange
@@ -165,12 +164,12 @@ good-1 = posts-good lim (opened 1 1) (posts 1) (good-opened lim 1 1 (omega arith
 
 bytes-1 : ledger 1 ≡ encode lim filled-1
 unfolding ledger filled-1 inRange
-bytes-1 = demand3 1 1 refl (posts 1) .ledger
+bytes-1 = runs .bellard-runs .demand3 1 1 refl (posts 1) .ledger
 
 sums-1 : (row : ℕ) → row < 7 → rowSumIn (ledger 1) row ≡ rowSums bellard 1 1 row
 unfolding filled-1 inRange
 sums-1 row h =
-    ap (λ (l : List ℕ). rowSumIn l row) bytes-1 ∙ sum-encode lim filled-1 good-1 row h ∙ demand3 1 1 refl (posts 1) .rows (filled 1) row h
+    ap (λ (l : List ℕ). rowSumIn l row) bytes-1 ∙ sum-encode lim filled-1 good-1 row h ∙ runs .bellard-runs .demand3 1 1 refl (posts 1) .rows (filled 1) row h
 
 position-1 : posIn (ledger 1) ≡ 1
 unfolding filled-1 inRange

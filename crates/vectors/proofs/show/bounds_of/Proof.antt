@@ -3,7 +3,6 @@
 use mathlib.Core.Path.{sym, _∙_}
 use native.Mathlib.Omega.{arith}
 use borrow.Author.Tests.{not-false}
-use Rattle.series.specs.declared.Series.the-variants.{Bellard}
 use Rattle.run.proofs.Positions.{position}
 use Rattle.ticket.proofs.Bounding.{bounded}
 use borrow.Author.Needs.{needs}
@@ -27,7 +26,7 @@ term-count-requires c κs =
 bound-requires : tie.Need-bound-requires
 bound-requires c κs =
     let run = c .before .before in
-    bounded Bellard _ _ _ _ _ (sym (run .before .in-range .ensures) ∙ not-false _ (run .if1 .left)) (c .before .if2 .left) (c .term-count .ensures) (omega arith)
+    bounded (run .before .before .args .f) _ _ _ _ _ (sym (run .before .in-range .ensures) ∙ not-false _ (run .if1 .left)) (c .before .if2 .left) (c .term-count .ensures) (omega arith)
 
 number-requires : tie.Need-number-requires
 number-requires c κs = search needs
@@ -39,7 +38,7 @@ bound-requires-2 : tie.Need-bound-requires-2
 bound-requires-2 c κs =
     let count = c .before .before in
     let run = count .before .before in
-    bounded Bellard _ _ _ _ _ (sym (run .before .in-range .ensures) ∙ not-false _ (run .if1 .left)) (count .before .if2 .left) (count .term-count .ensures) (omega arith)
+    bounded (run .before .before .args .f) _ _ _ _ _ (sym (run .before .in-range .ensures) ∙ not-false _ (run .if1 .left)) (count .before .if2 .left) (count .term-count .ensures) (omega arith)
 
 number-requires-2 : tie.Need-number-requires-2
 number-requires-2 c κs = search needs

@@ -1,10 +1,12 @@
 -- `vectors::show::size_of` calls what it may: the position, the row and k were tested, and the row fits by the rule of the table.
 -- Assumes nothing.
 use mathlib.Core.Path.{sym, subst, _∙_}
+use Prim.Native.Nat.{_+_}
+use native.Mathlib.Omega.{arith}
 use borrow.Author.Tests.{not-false}
-use Rattle.series.specs.Bellard.{bellard}
-use Rattle.series.specs.Fitting.{Fitting}
-use Rattle.series.specs.declared.Series.the-variants.{Bellard}
+use Rattle.series.specs.Fitting.{Workable}
+use Rattle.series.specs.declared.terms.Numbers.{Numbers}
+use Rattle.series.proofs.Numbers.{workable}
 use Rattle.series.proofs.Table.{fitting}
 use Rattle.run.proofs.Positions.{position}
 use Rattle.run.proofs.Range.{ticket-row}
@@ -32,10 +34,13 @@ term-count-requires c κs =
 returns-3 : tie.Need-returns-3
 returns-3 c = search needs
 
-row-at-requires : tie.Need-row-at-requires
-row-at-requires c κs =
+numbers-of-requires : tie.Need-numbers-of-requires
+numbers-of-requires c κs =
     let row = c .before .before in
-    ticket-row _ 1 _ 0 (sym (row .before .is-ticket .ensures) ∙ not-false _ (row .if2 .left))
+    let run = row .before .before in (
+      position _ _ 1 (sym (run .before .in-range .ensures) ∙ not-false _ (run .if1 .left)),
+      ticket-row _ 1 _ 0 (sym (row .before .is-ticket .ensures) ∙ not-false _ (row .if2 .left)),
+    )
 
 is-added-requires : tie.Need-is-added-requires
 is-added-requires c κs = search needs
@@ -48,11 +53,13 @@ size-requires c κs =
     let numbers = c .before .before in
     let k = numbers .before in
     let row = k .before .before in
-    let run = row .before .before in (
-      position _ _ 1 (sym (run .before .in-range .ensures) ∙ not-false _ (run .if1 .left)),
-      subst (Fitting bellard) (sym (numbers .row-at .ensures)) (fitting Bellard _ (ticket-row _ 1 _ 0 (sym (row .before .is-ticket .ensures) ∙ not-false _ (row .if2 .left)))),
-      rw (k .before .term-count .ensures) at (k .if3 .left),
-    )
+    let run = row .before .before in
+    let a = run .before .before .args in
+    let below = rw (k .before .term-count .ensures) at (k .if3 .left) in
+    let w = workable (a .f) (a .p) _ (a .k + 1) (position _ _ 1 (sym (run .before .in-range .ensures) ∙ not-false _ (run .if1 .left)))
+    (fitting (a .f) (a .row) (ticket-row _ 1 _ 0 (sym (row .before .is-ticket .ensures) ∙ not-false _ (row .if2 .left))))
+    (omega (arith, below)) in
+    subst (λ (n : Numbers). Workable n (a .k + 1)) (sym (numbers .numbers-of .ensures)) w
 
 wide-requires : tie.Need-wide-requires
 wide-requires c κs = search needs
@@ -70,7 +77,7 @@ size-of-spec =
     returns-2
     term-count-requires
     returns-3
-    row-at-requires
+    numbers-of-requires
     is-added-requires
     sign-requires
     size-requires

@@ -1,0 +1,83 @@
+-- Demand 1, for any formula: each call answers by the number of its refusal, and changes its slices only where that is 0. That no number is
+-- above 9 is one computed test.
+-- Assumes nothing.
+use mathlib.Core.Path.{_≡_, refl, sym}
+use mathlib.Core.Bool.{Bool, true, false, cond, _&&_}
+use mathlib.Core.List.{List, [], _∷_}
+use Prim.Native.Nat.{ℕ, zero, suc, _≤_}
+use native.Mathlib.Omega.{arith}
+use borrow.Author.Tests.{leb-true, ne-eqb}
+use lib.Dec.{eqb, leb}
+use lib.IntN.{pos, negℤ}
+use Rattle.algebra.proofs.Booleans.{and-left, and-right}
+use Rattle.series.specs.Series.{Formula}
+use Rattle.run.specs.Refusal.{Test, refusal, answer}
+use Rattle.run.proofs.Answering.{finished}
+use Rattle.ticket.specs.Work.{workTests, workRefusal, workAnswer, workBytes}
+use Rattle.ticket.specs.declared.Part.{Part}
+use Rattle.ledger.specs.Calls.{openRefusal, openAnswer, openBytes, ticketRefusal, ticketAnswer, ticketBytes}
+use Rattle.sheet.specs.Calls.{writeRefusal, writeAnswer, writeBytes, readRefusal, readAnswer, readList, readSums, sheetRefusal, sheetAnswer, sheetBytes}
+use Rattle.closing.specs.Closing.{closeRefusal, closingAnswer, closingBytes, closeAnswer, closeBytes}
+use Rattle.settlement.specs.Refused.{Arguments, Slice, slice, call, calls, AllKept, Answered, AllAnswered, Demand1}
+
+-- no test has a number above 9
+upToNine : List Test → Bool
+upToNine [] = true
+upToNine (t ∷ ts) = leb (t .number) 9 && upToNine ts
+
+at-most-nine : (ts : List Test) → upToNine ts ≡ true → refusal ts ≤ 9
+unfolding upToNine refusal
+at-most-nine [] e = omega arith
+at-most-nine (t ∷ ts) e =
+    go (t .applies) (leb-true (t .number) 9 (and-left (leb (t .number) 9) _ e)) (at-most-nine ts (and-right (leb (t .number) 9) _ e))
+  where
+    go : (b : Bool) → t .number ≤ 9 → refusal ts ≤ 9 → cond b (t .number) (refusal ts) ≤ 9
+    go true h l = h
+    go false h l = l
+
+negated : (n value : ℕ) → (n ≡ 0 → ⊥) → answer n value ≡ negℤ (pos n)
+unfolding answer
+negated zero value f = absurd (f refl)
+negated (suc n) value f = refl
+
+-- a slice that changes only where the number is 0
+kept : (n : ℕ) (new old : List ℕ) → (n ≡ 0 → ⊥) → cond (eqb n 0) new old ≡ old
+kept n new old f = rw (ne-eqb n 0 f) refl
+
+answered : (ts : List Test) (value : ℕ) (slices : List Slice) → upToNine ts ≡ true → ((refusal ts ≡ 0 → ⊥) → AllKept slices)
+    → Answered (call (refusal ts) (answer (refusal ts) value) slices)
+answered ts value slices e k = record {
+  one-of-nine = at-most-nine ts e;
+  worked = λ z. (value, sym (finished (refusal ts) value z));
+  refused = λ f. (negated (refusal ts) value f, k f);
+}
+
+one-kept : (n : ℕ) (new old : List ℕ) → (n ≡ 0 → ⊥) → AllKept (slice old (cond (eqb n 0) new old) ∷ [])
+unfolding AllKept
+one-kept n new old f = (kept n new old f, tt)
+
+-- Demand 1
+pub demand1 : (F : Formula) → Demand1 F
+unfolding AllAnswered AllKept upToNine workRefusal workAnswer workBytes openRefusal openAnswer openBytes ticketRefusal ticketAnswer ticketBytes writeRefusal writeAnswer writeBytes readRefusal readAnswer readList readSums sheetRefusal sheetAnswer sheetBytes closeRefusal closingAnswer closingBytes closeAnswer closeBytes
+demand1 F a = (
+  answered _ _ _ refl (one-kept _ _ _),
+  (
+    answered _ _ _ refl (one-kept _ _ _),
+    (
+      answered _ _ _ refl (one-kept _ _ _),
+      (
+        answered _ _ _ refl (one-kept _ _ _),
+        (
+          answered _ _ _ refl (one-kept _ _ _),
+          (
+            answered _ _ _ refl (one-kept _ _ _),
+            (
+              answered _ _ _ refl (λ f. (kept _ _ _ f, (kept _ _ _ f, tt))),
+              (answered _ _ _ refl (one-kept _ _ _), (answered _ _ _ refl (one-kept _ _ _), tt)),
+            ),
+          ),
+        ),
+      ),
+    ),
+  ),
+)

@@ -1,0 +1,45 @@
+-- All that is promised of runs, for any formula that meets what is asked, and so for Bellard's runs and for check runs.
+-- Assumes nothing.
+use Prim.Native.Nat.{ℕ}
+use native.Mathlib.Omega.{arith}
+use lib.Dec.{lit<}
+use Rattle.series.specs.Names.{formulaOf}
+use Rattle.series.specs.declared.Series.{Series}
+use Rattle.series.specs.declared.Series.the-variants.{Bellard, Check}
+use Rattle.sheet.specs.RoundTrip.{Fits}
+use Rattle.interval.proofs.Denominator.{whole-exists}
+use Rattle.interval.proofs.Premises.{positive, rest}
+use Rattle.settlement.specs.Runs.{Asked, Promised, EveryFormula, Runs}
+use Rattle.settlement.proofs.Refused.{demand1}
+use Rattle.settlement.proofs.Agreement.{demand2}
+use Rattle.settlement.proofs.Theorem.{demand3}
+use Rattle.settlement.proofs.Facts.{facts}
+use Rattle.settlement.proofs.OneTotal.{as-before}
+use Rattle.settlement.proofs.Filler.{filled-exists}
+
+pub every-formula : EveryFormula
+every-formula F asked = record {
+  demand1 = demand1 F;
+  demand2 = demand2 F (asked .fits);
+  demand3 = demand3 F (asked .fits .near) (asked .positive) (asked .rest);
+  facts = facts F (asked .fits .near);
+  as-before = as-before F (asked .fits .near);
+  filled = λ p C. filled-exists F p C;
+  whole = λ p L. whole-exists F p L (asked .positive);
+}
+
+fits : (f : Series) → Fits (formulaOf f)
+fits Bellard = record { few = lit< tt; near = lit< tt }
+fits Check = record { few = lit< tt; near = lit< tt }
+
+-- what is asked of a formula, by the name that the code has for it
+pub asked : (f : Series) → Asked (formulaOf f)
+asked f = record { fits = fits f; positive = positive f; rest = rest f }
+
+pub runs : Runs
+runs = record {
+  bellard-asked = asked Bellard;
+  check-asked = asked Check;
+  bellard-runs = every-formula _ (asked Bellard);
+  check-runs = every-formula _ (asked Check);
+}
