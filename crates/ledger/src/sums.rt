@@ -33,9 +33,9 @@ pub fn put(f: Series, s: &mut [u8], sums: [Wide; 7])
     requires { ⌜ length (now s) ≡ ledgerSize (limitsOf (formulaOf f)) ⌝ }
     ensures { λ _. ⌜ now (s .exit) ≡ withSums (limitsOf (formulaOf f)) (now (s .entry)) (valueAt sums) ⌝ }
 {
-    let rows = series::limits::row_count(f);
+    let count = series::limits::row_count(f);
     let mut row = 0;
-    while row < rows {
+    while row < count {
         words::put_wide(s, 16 + 16 * row, sums[row]);
         row += 1;
     }

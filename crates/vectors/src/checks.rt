@@ -88,20 +88,20 @@ fn exponents() {
     term(20, 0, 3);
 }
 
-// Terms at the last position: the first, two about E = 128, and the last two; N is just below 2^62 and above.
-fn ends(row: u64, k: u64) {
+// Terms at the last position: the first, two about E = 128, and the last two; N comes to about 2^62 in rows 0 and 2.
+fn ends(row: u64, k: u64, next: u64) {
     term(576460752303423488, row, 0);
     term(576460752303423488, row, k);
-    term(576460752303423488, row, k + 1);
+    term(576460752303423488, row, next);
     term(576460752303423488, row, 576460752303423518);
     term(576460752303423488, row, 576460752303423519);
 }
 
 fn last_position() {
-    ends(0, 576460752303423487);
-    ends(1, 576460752303423486);
-    ends(2, 576460752303423487);
-    ends(3, 576460752303423486);
+    ends(0, 576460752303423487, 576460752303423488);
+    ends(1, 576460752303423486, 576460752303423487);
+    ends(2, 576460752303423487, 576460752303423488);
+    ends(3, 576460752303423486, 576460752303423487);
 }
 
 // Terms in the middle of rows at large positions.
