@@ -1,11 +1,13 @@
 # make digits P=1000000   the digits of pi from position P on; KEEP=FILE keeps the ledger, written before it is closed;
-#                         HALVES=1 works each ticket by two processes, a half by each
+#                         HALVES=1 works each ticket by two processes, a half by each; CHECK=1 works a check run as well,
+#                         by the older formula, and compares the digits, its ledger being kept in FILE.check
 # make rows LEDGER=FILE   each row's sum in a kept ledger beside that of its tickets worked anew; ROWS="0 3" for some
 # make test               the gate: proofs and tests, as .ci/run has them
 # make check              the tests in C alone; SEED= and COUNT= for other random cases
 # make bench              times, beside plain C
-# make published          Table 4 of document 001 at 10^7 and 10^8
-# make published-long     the same at 10^9 to 10^11, in hours; LONG= for other positions, PROCESSES= at a time
+# make published          Table 4 of document 001 at 10^7 and 10^8, by both formulas
+# make published-long     the same at 10^9 to 10^11, in hours; LONG= for other positions, PROCESSES= at a time, CHECK=1 for
+#                         check runs in place of Bellard's
 # make install            header, proved library, pkg-config file, FORMATS.md, CHANGELOG.md: below PREFIX=/usr/local; DESTDIR=
 # make uninstall          removes what install put there
 # make standin            the stand-in for the engine, in C: ENGINE=build/standin/libengine.a takes its place in any of
@@ -20,6 +22,7 @@ PREFIX = /usr/local
 P = 1000000
 KEEP =
 HALVES =
+CHECK =
 LEDGER =
 ROWS =
 SEED = 1
@@ -67,7 +70,7 @@ BUILT = build/test_reference $(TESTS:%=build/mutants/test_%) $(TESTS:%=$(OUT)/te
 .PHONY: digits rows test check bench published published-long install uninstall standin vectors clean help
 
 digits: $(OUT)/acceptance
-	@$(OUT)/acceptance $(if $(HALVES),--halves) $(if $(KEEP),--keep $(KEEP)) $(P)
+	@$(OUT)/acceptance $(if $(CHECK),--check) $(if $(HALVES),--halves) $(if $(KEEP),--keep $(KEEP)) $(P)
 
 rows: $(OUT)/acceptance
 	@$(OUT)/acceptance --rows $(LEDGER) $(ROWS)
@@ -88,8 +91,9 @@ published: $(OUT)/published
 published-long: $(OUT)/farm $(OUT)/published
 	@kept=published/$$(sha256sum $(ENGINE) | cut -c1-16); mkdir -p $$kept; \
 	for p in $(LONG); do \
-		$(OUT)/farm $$p 256 $$kept/$$p $(PROCESSES) >$$kept/$$p.closing && cat $$kept/$$p.closing && \
-		$(OUT)/published - <$$kept/$$p.closing || exit 1; \
+		closing=$$kept/$$p$(if $(CHECK),.check).closing; \
+		$(OUT)/farm $(if $(CHECK),--check) $$p 256 $$kept/$$p $(PROCESSES) >$$closing && cat $$closing && \
+		$(OUT)/published - <$$closing || exit 1; \
 	done
 
 # What is installed: a file of the tree, then its place below PREFIX.

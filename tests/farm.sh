@@ -1,6 +1,7 @@
 #!/usr/bin/env bash
 # farm.sh FARM DIRECTORY - a run by processes: worked, stopped, taken up again with damaged files; the ledger kept;
-# arguments that are no numbers, output that cannot be written, refusals. ENGINE is the library that it is built with.
+# a check run in the same directory; arguments that are no numbers, output that cannot be written, refusals. ENGINE is
+# the library that it is built with.
 set -u
 farm=$1
 directory=$2
@@ -50,10 +51,29 @@ misplace() {
     cp "$directory/1000-5-1-1.sheet.fnv" "$directory/1000-5-1-2.sheet.fnv"
 }
 
+# A check run beside the other: each takes its own sheets alone, though one of the other kind would be read.
+check_run() {
+    local check_line="check 1000 28 349F1C09B075372C980991B7B25D" before
+    before=$(cksum "$directory"/*)
+    same "a check run" "$("$farm" --check 1000 5 "$directory" 2)" "$check_line"
+    same "files kept of both" "$(find "$directory" -type f | wc -l) $(find "$directory" -name '*.check.*' | wc -l)" "112 41"
+    same "the size of the check ledger kept" "$(wc -c <"$directory/1000-5.check.ledger")" 208
+    touch "$scratch/both"
+    sleep 0.05
+    same "a check run again" "$("$farm" --check 1000 5 "$directory")" "$check_line"
+    same "the run again" "$("$farm" 1000 5 "$directory")" "$line"
+    same "what is worked again" "$(find "$directory" -name '*.sheet' -newer "$scratch/both")" ""
+    rm "$directory"/*.check.*
+    same "the files of the run after the check run" "$(cksum "$directory"/*)" "$before"
+    ends 1 "$farm" --check 576460752303423489 5 "$directory"
+    same "what is said of position 2^59 + 1" "$said" "check open: refused 2: position or block count out of range"
+}
+
 rm -rf "$directory"
 same "a run" "$("$farm" 1000 5 "$directory" 2)" "$line"
 same "files kept" "$(find "$directory" -type f | wc -l)" 71
 same "the ledger kept" "$(od -An -v -tx1 "$directory/1000-5.ledger" | tr -d ' \n')" "$(full_ledger)"
+check_run
 damages
 damaged "a sheet in another's place" 1000-5-1-2 misplace
 unwritable "$farm" 1000 5 "$directory"
@@ -74,7 +94,11 @@ for word in '' 5x x ' 5' +5 -5 18446744073709551621; do
     ends 2 "$farm" 5 5 "$directory" "$word"
 done
 ends 2 "$farm" 5 5 "$directory" 0
+ends 2 "$farm" --check 5 5
+ends 2 "$farm" --check --check 5 5 "$directory"
 for call in open sheet_write sheet_read sheet_post close; do
+    rm -rf "$directory"
+    refusing tools/farm.c bbp_check_$call --check 5 1 "$directory"
     rm -rf "$directory"
     refusing tools/farm.c bbp_$call 5 1 "$directory"
 done
