@@ -122,7 +122,7 @@ static void inspect(const struct run *run, const uint8_t *sheet, size_t sheet_le
     int64_t answer = run->kind->sheet_read(sheet, sheet_len, found, sizeof found, sums, sizeof sums);
     size_t e = (size_t)run_finished(run, "sheet read", answer);
     if (e != list_len / 2 || memcmp(found, list, list_len) != 0) {
-        fprintf(stderr, "%sthe sheet does not hold the tickets that were ordered\n", run->kind->word);
+        fprintf(stderr, "%ssheet read: not the tickets that were ordered\n", run->kind->word);
         exit(1);
     }
 }

@@ -78,6 +78,18 @@ for call in open work post sheet_write sheet_read sheet_post close work_lower wo
     prints 0 "$line" "$scratch/refusing" $halves 1000 5
 done
 
+# A sheet that holds another ticket than the one ordered, or none.
+for calls in bbp_ bbp_check_; do
+    before=
+    if [ $calls = bbp_check_ ]; then before=$line; fi
+    read=$(call ${calls}sheet_read)
+    for answer in "$read - 1" "(list_len = (size_t)$read, list[0] ^= 1, (int64_t)list_len)"; do
+        wrapped other examples/acceptance.c "$(instead ${calls}sheet_read "$answer")"
+        prints 1 "$before" "$scratch/other" --check 1000 5
+        same "what is said of another ticket" "$said" "${before:+check }sheet read: not the tickets that were ordered"
+    done
+done
+
 # What docs/FORMATS.md shows is what the library gives.
 ${CC:-gcc} -std=c99 -Wall -Wextra -Werror -Iinclude examples/formats.c "$ENGINE" ${LDFLAGS:-} -o "$scratch/formats" || exit 1
 same "the bytes in docs/FORMATS.md" "$(sed -n '/^```text/,/^```$/p' docs/FORMATS.md | grep -v '^```')" "$("$scratch/formats")"
