@@ -11,27 +11,27 @@
  * processes, a half by each, and posted with the sum of both: the ledger and
  * the closing line are the same.
  *
- * With --check a check run with the same numbers is worked and closed after
- * that run, and two more lines are printed. One is the check run's closing
- * line with a word before it. The other says that the digits of both agree, as
- * far as the shorter line has any, or at which they differ first, the digit at
- * POSITION being digit 1:
+ * With --check a check run with the same position and block count is worked and
+ * closed after that run, and two more lines are printed. The first of them is
+ * the check run's closing line with the word `check` before it; the second says
+ * that the digits agree, as many as the shorter closing has:
  *
  *     1000 29 349F1C09B075372C980991B7B25D4
  *     check 1000 28 349F1C09B075372C980991B7B25D
  *     agree 28 digits
  *
- * or `differ at digit 7`, and the status is then 4. Both runs are opened before
- * the work, so that a position above the last of check runs is refused at once.
- * With --keep the check run's ledger goes to FILE.check, also opened before the
- * work. A refusal ends the program where it happens: lines printed by then
- * stay, and after a word `check` before the call it was the check run's.
+ * or which is the first that differs, counted from 1: `differ at digit 7`. The
+ * status is then 4. Both runs are opened before any work, so that a position
+ * beyond those of check runs is refused at once. With --keep the check run's
+ * ledger is written to FILE.check, which is opened before the work as well. Where
+ * a call is refused the program ends, and the lines printed before stay; a call
+ * of the check run is named with the word `check` before it.
  *
  * A sum and a sheet do not name their formula: a ledger of the other kind can
- * take them, and its digits would be wrong. So each run is a value of its own,
- * and has its ledger and all its calls from one entry of the table in kinds.h.
- * A sheet is written, read and posted inside one function that knows one run;
- * the one function that is given two compares their digits.
+ * take them, and its digits would be wrong. So each run has a struct of its own
+ * with its ledger, and takes all its calls from one entry of the table in
+ * kinds.h. A sheet is written, read and posted in one function, which knows one
+ * run; the only function that is given both runs compares their digits.
  *
  * acceptance --rows LEDGER [ROW ..] - shows which rows of a kept ledger to work
  * again. LEDGER is a file, `-` being standard input; tickets may be missing
