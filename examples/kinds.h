@@ -15,7 +15,7 @@ typedef int64_t work_call(uint64_t p, uint64_t c, uint64_t row, uint64_t block, 
 struct kind {
     const char *word, *suffix; /* before its calls and its closing line; after the name of its file */
     uint64_t last_position, rows;
-    size_t ledger_size, list_max, sheet_max, marks_at;
+    size_t ledger_size, marks_at;
     work_call *work, *work_lower, *work_upper;
     int64_t (*open)(uint64_t p, uint64_t c, uint8_t *ledger, size_t ledger_len);
     int64_t (*post)(uint8_t *ledger, size_t ledger_len, uint64_t p, uint64_t c, uint64_t row, uint64_t block,
@@ -27,10 +27,10 @@ struct kind {
     int64_t (*close)(const uint8_t *ledger, size_t ledger_len, uint8_t *digits, size_t digits_len);
 };
 
-#define KIND(word, suffix, calls, numbers)                                                                          \
-    {word, suffix, numbers##MAX_POSITION, numbers##ROWS, numbers##LEDGER_SIZE, numbers##LIST_MAX, numbers##SHEET_MAX, \
-     numbers##ROW_MARKS_AT(0), calls##work, calls##work_lower, calls##work_upper, calls##open, calls##post,          \
-     calls##sheet_write, calls##sheet_read, calls##sheet_post, calls##close}
+#define KIND(word, suffix, calls, numbers)                                                                       \
+    {word, suffix, numbers##MAX_POSITION, numbers##ROWS, numbers##LEDGER_SIZE, numbers##ROW_MARKS_AT(0), calls##work, \
+     calls##work_lower, calls##work_upper, calls##open, calls##post, calls##sheet_write, calls##sheet_read,          \
+     calls##sheet_post, calls##close}
 
 enum { BELLARD, CHECK, KINDS };
 static const struct kind kinds[KINDS] = {KIND("", "", bbp_, BBP_), KIND("check ", ".check", bbp_check_, BBP_CHECK_)};
