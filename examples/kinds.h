@@ -35,7 +35,7 @@ struct kind {
 enum { BELLARD, CHECK, KINDS };
 static const struct kind kinds[KINDS] = {KIND("", "", bbp_, BBP_), KIND("check ", ".check", bbp_check_, BBP_CHECK_)};
 
-/* Closes a ledger and prints position, number of digits, digits; gives that number. A refusal ends the program. */
+/* Closes a ledger and prints its kind's word, position, number of digits, digits; gives that number. */
 static inline int64_t print_closing(const struct kind *kind, uint64_t p, const uint8_t *ledger, uint8_t *digits)
 {
     int64_t d = finished_by(kind->word, "close", kind->close(ledger, kind->ledger_size, digits, BBP_DIGITS_SIZE));
