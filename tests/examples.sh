@@ -71,19 +71,19 @@ done
 # The check run is opened before the work and worked after the other run. Without --check it is neither.
 for call in open work post sheet_write sheet_read sheet_post close work_lower work_upper; do
     wrapped refusing examples/acceptance.c "$(instead bbp_check_$call -7)"
-    before=$line halves=
-    case $call in open) before= ;; work_*) halves=--halves ;; esac
-    prints 1 "$before" "$scratch/refusing" --check $halves 1000 5
+    before=$line option=
+    case $call in open) before= ;; work_*) option=--halves ;; esac
+    prints 1 "$before" "$scratch/refusing" --check $option 1000 5
     same "what acceptance --check says of check $call" "$said" "check ${call/_/ }: refused 7: ticket marked already"
-    prints 0 "$line" "$scratch/refusing" $halves 1000 5
+    prints 0 "$line" "$scratch/refusing" $option 1000 5
 done
 
 # A sheet that holds another ticket than the one ordered, or none.
 for calls in bbp_ bbp_check_; do
     before=
     if [ $calls = bbp_check_ ]; then before=$line; fi
-    read=$(call ${calls}sheet_read)
-    for answer in "$read - 1" "(list_len = (size_t)$read, list[0] ^= 1, (int64_t)list_len)"; do
+    engine=$(call ${calls}sheet_read)
+    for answer in "$engine - 1" "(list_len = (size_t)$engine, list[0] ^= 1, (int64_t)list_len)"; do
         wrapped other examples/acceptance.c "$(instead ${calls}sheet_read "$answer")"
         prints 1 "$before" "$scratch/other" --check 1000 5
         same "what is said of another ticket" "$said" "${before:+check }sheet read: not the tickets that were ordered"
@@ -301,7 +301,7 @@ unsettled() {
 
 # A line that cannot be written ends the program, also the second and the third.
 unwritable_lines() {
-    local wanted printed=$line
+    local wanted
     for wanted in 1 2 3; do
         wrapped unwritable examples/acceptance.c '#include <stdio.h>' 'static int lines;' \
             "#define fflush(file) (++lines == $wanted ? fflush(file), EOF : fflush(file))"
