@@ -33,9 +33,9 @@ static const struct {
 
 static unsigned checks;
 
-static void failed(const char *what, uint64_t p, const char *found, const char *wanted)
+static void failed(const char *word, const char *what, uint64_t p, const char *found, const char *wanted)
 {
-    fprintf(stderr, "published: %s at %" PRIu64 ": %s, not %s\n", what, p, found, wanted);
+    fprintf(stderr, "published: %s%s at %" PRIu64 ": %s, not %s\n", word, what, p, found, wanted);
     exit(1);
 }
 
@@ -70,15 +70,15 @@ static size_t close_run(const struct kind *kind, uint64_t p, char digits[33])
 }
 
 /* A closing that settles next to nothing would agree with anything: 20 digits are asked for. */
-static void compare(uint64_t p, const char *digits)
+static void compare(const char *word, uint64_t p, const char *digits)
 {
     const char *wanted = published_digits(p);
     size_t i = 0;
     for (; digits[i] != '\0' && wanted[i] != '\0'; i++)
         if (digits[i] != (wanted[i] == 'O' ? '0' : wanted[i]))
-            failed("digits", p, digits, wanted);
+            failed(word, "digits", p, digits, wanted);
     if (i < 20)
-        failed("too few digits", p, digits, wanted);
+        failed(word, "too few digits", p, digits, wanted);
     checks++;
 }
 
@@ -86,7 +86,7 @@ static void compare_run(const struct kind *kind, uint64_t p)
 {
     char digits[33];
     close_run(kind, p, digits);
-    compare(p, digits);
+    compare(kind->word, p, digits);
 }
 
 static void compare_overlap(const struct kind *kind, uint64_t p)
@@ -95,15 +95,14 @@ static void compare_overlap(const struct kind *kind, uint64_t p)
     size_t d = close_run(kind, p, here), e = close_run(kind, p - 1, before);
     size_t shared = d < e - 1 ? d : e - 1;
     if (shared < 20 || memcmp(here, before + 1, shared) != 0)
-        failed("overlap", p, here, before);
+        failed(kind->word, "overlap", p, here, before);
     checks++;
 }
 
 /* The next closing line, with or without a word before it; gives whether there is one. */
 static int read_line(uint64_t *p, unsigned *d, char digits[33])
 {
-    (void)!scanf(" check");
-    return scanf("%" SCNu64 " %u %32s", p, d, digits) == 3;
+    return scanf(" check") != EOF && scanf("%" SCNu64 " %u %32s", p, d, digits) == 3;
 }
 
 static void compare_lines(void)
@@ -113,11 +112,11 @@ static void compare_lines(void)
     char digits[33];
     while (read_line(&p, &d, digits)) {
         if (strlen(digits) != d)
-            failed("the count of digits", p, digits, published_digits(p));
-        compare(p, digits);
+            failed("", "the count of digits", p, digits, published_digits(p));
+        compare("", p, digits);
     }
     if (checks == 0)
-        failed("closing line", 0, "none", "one");
+        failed("", "closing line", 0, "none", "one");
 }
 
 int main(int argc, char **argv)
