@@ -24,8 +24,9 @@
  * status is then 4. Both runs are opened before any work, so that a position
  * beyond those of check runs is refused at once. With --keep the check run's
  * ledger is written to FILE.check, which is opened before the work as well. Where
- * a call is refused the program ends, and the lines printed before stay; a call
- * of the check run is named with the word `check` before it.
+ * a call is refused the program ends: the lines printed before stay, and a file
+ * not written yet is empty. A call of the check run is named with the word
+ * `check` before it.
  *
  * A sum and a sheet do not name their formula: a ledger of the other kind can
  * take them, and its digits would be wrong. So each run has a struct of its own
