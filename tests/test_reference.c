@@ -67,13 +67,13 @@ WORKING(work_upper)
 int main(int argc, char **argv)
 {
     start("reference", argc, argv);
-    CHECK(each_term(compare_term) > 200, "vectors.txt has too few terms");
+    CHECK(each_term(compare_term) > 100, "vectors.txt has too few terms");
     CHECK(each_count(compare_count) > 10, "vectors.txt has too few counts");
     CHECK(each_block("block", compare_block) > 20, "vectors.txt has too few blocks");
     CHECK(each_block("lower-half", compare_lower_half) > 10, "vectors.txt has too few lower halves");
     CHECK(each_block("upper-half", compare_upper_half) > 10, "vectors.txt has too few upper halves");
-    compare_sums("ticket", work, 200);
-    compare_sums("lower", work_lower, 200);
-    compare_sums("upper", work_upper, 200);
+    compare_sums("ticket", work, 100);
+    compare_sums("lower", work_lower, 100);
+    compare_sums("upper", work_upper, 100);
     return finish();
 }
