@@ -95,21 +95,18 @@ ${CC:-gcc} -std=c99 -Wall -Wextra -Werror -Iinclude examples/formats.c "$ENGINE"
 same "the bytes in docs/FORMATS.md" "$(sed -n '/^```text/,/^```$/p' docs/FORMATS.md | grep -v '^```')" "$("$scratch/formats")"
 unwritable "$scratch/formats"
 
+# The word for a ticket in tests/vectors.txt and the rows, of Bellard's runs; check_rows COMMAND.. - the same of check runs.
+ticket=ticket rows='0 1 2 3 4 5 6'
+check_rows() { ticket=check-ticket rows='0 1 2 3' "$@"; }
+
 # sum_of P ROW - the sum of all terms of a row, as tests/vectors.txt has it for the row's one ticket where C is 1.
-sum_of() { sed -n "s/^ticket $1 1 $2 0 \([0-9a-f]*\) .*/\1/p" tests/vectors.txt; }
+sum_of() { sed -n "s/^$ticket $1 1 $2 0 \([0-9a-f]*\) .*/\1/p" tests/vectors.txt; }
 
-# check_sum_of 1000 ROW - the same of a check run, as docs/FORMATS.md has it.
-check_sum_of() {
-    sed -n "/^check sum of ticket ($2, 0) of p = $1, C = 1\$/{n; s/^ *0  //p}" docs/FORMATS.md | tr ' ' '\n' | tac | tr -d '\n'
-}
-
-# lines P [ROW SUM] - what --rows prints of a full ledger that has another sum in one row; of the kind that the words `sums`
-# and `rows` tell.
-sums=sum_of rows='0 1 2 3 4 5 6'
+# lines P [ROW SUM] - what --rows prints of a full ledger that has another sum in one row.
 lines() {
     local row sum
     for row in $rows; do
-        sum=$($sums "$1" "$row")
+        sum=$(sum_of "$1" "$row")
         if [ "$row" = "${2-}" ]; then
             echo "row $row ledger $3 worked $sum differs"
         else
@@ -331,9 +328,6 @@ apart() {
     prints 0 "$both" "$scratch/apart" --check --halves 1000 5
 }
 
-# check_rows COMMAND.. - with the rows of check runs, and their sums.
-check_rows() { sums=check_sum_of rows='0 1 2 3' "$@"; }
-
 # differing KIND ROW STATUS OUTPUT CODE - a run at 1,000 built with that code, which spoils a sum of the row in a ledger of
 # that kind as it is posted: what is printed, and that this row of this ledger alone differs.
 differing() {
@@ -409,10 +403,10 @@ refused_ledgers() {
 
 # The rows of a check ledger, which is known by its size.
 check_ledgers() {
-    local check=$ledger.check none=00000000000000000000000000000000 run
-    for run in '1000 1' '1000 5' '1000 256'; do
+    local check=$ledger.check none=00000000000000000000000000000000 run row
+    for run in '1 1' '1 33' '1 256' '1000 1' '1000 5'; do
         "$acceptance" --check --keep "$ledger" $run >/dev/null
-        prints 0 "$(check_rows lines 1000)" "$acceptance" --rows "$check"
+        prints 0 "$(check_rows lines ${run% *})" "$acceptance" --rows "$check"
     done
     same "--rows of standard input" "$("$acceptance" --rows - <"$check")" "$(check_rows lines 1000)"
     prints 0 "$(check_rows lines 1000 | sed -n '1p; 4p')" "$acceptance" --rows "$check" 3 0

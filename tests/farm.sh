@@ -38,12 +38,18 @@ damages() {
     damaged "a sheet lost" "$ticket" rm "$sheet"
 }
 
-# The bytes of the run's full ledger, in hexadecimal; a row's sum is that of its one ticket where C is 1.
+# full_ledger WORD ROW.. - the bytes of the run's full ledger, in hexadecimal; a row's sum is that of its one ticket where C
+# is 1, in a line of tests/vectors.txt with that word.
 full_ledger() {
+    local word=$1
+    shift
     printf '%s' e803000000000000 0500 000000000000
-    sed -n 's/^ticket 1000 1 [0-6] 0 [0-9a-f]* //p' tests/vectors.txt | tr -d '\n'
-    for _ in 0 1 2 3 4 5 6; do printf '1f%062d' 0; done
+    sed -n "s/^$word 1000 1 [0-9] 0 [0-9a-f]* //p" tests/vectors.txt | tr -d '\n'
+    for _ in "$@"; do printf '1f%062d' 0; done
 }
+
+# ledger_in FILE - its bytes, in hexadecimal.
+ledger_in() { od -An -v -tx1 "$directory/$1" | tr -d ' \n'; }
 
 # Another ticket's sheet with its own checksum, both whole.
 misplace() {
@@ -57,7 +63,7 @@ check_run() {
     before=$(cksum "$directory"/*)
     same "a check run" "$("$farm" --check 1000 5 "$directory" 2)" "$check_line"
     same "files kept of both" "$(find "$directory" -type f | wc -l) $(find "$directory" -name '*.check.*' | wc -l)" "112 41"
-    same "the size of the check ledger kept" "$(wc -c <"$directory/1000-5.check.ledger")" 208
+    same "the check ledger kept" "$(ledger_in 1000-5.check.ledger)" "$(full_ledger check-ticket 0 1 2 3)"
     touch "$scratch/both"
     sleep 0.05
     same "a check run again" "$("$farm" --check 1000 5 "$directory")" "$check_line"
@@ -72,7 +78,7 @@ check_run() {
 rm -rf "$directory"
 same "a run" "$("$farm" 1000 5 "$directory" 2)" "$line"
 same "files kept" "$(find "$directory" -type f | wc -l)" 71
-same "the ledger kept" "$(od -An -v -tx1 "$directory/1000-5.ledger" | tr -d ' \n')" "$(full_ledger)"
+same "the ledger kept" "$(ledger_in 1000-5.ledger)" "$(full_ledger ticket 0 1 2 3 4 5 6)"
 check_run
 damages
 damaged "a sheet in another's place" 1000-5-1-2 misplace
