@@ -1,11 +1,13 @@
 # make digits P=1000000   the digits of pi from position P on; KEEP=FILE keeps the ledger, written before it is closed;
-#                         HALVES=1 works each ticket by two processes, a half by each
+#                         HALVES=1 works each ticket by two processes, a half by each; CHECK=1 works a check run as well,
+#                         by the older formula, and compares the digits, its ledger being kept in FILE.check
 # make rows LEDGER=FILE   each row's sum in a kept ledger beside that of its tickets worked anew; ROWS="0 3" for some
 # make test               the gate: proofs and tests, as .ci/run has them
 # make check              the tests in C alone; SEED= and COUNT= for other random cases
 # make bench              times, beside plain C
-# make published          Table 4 of document 001 at 10^7 and 10^8
-# make published-long     the same at 10^9 to 10^11, in hours; LONG= for other positions, PROCESSES= at a time
+# make published          Table 4 of document 001 at 10^7 and 10^8, by both formulas
+# make published-long     the same at 10^9 to 10^11, in hours; LONG= for other positions, PROCESSES= at a time, CHECK=1 for
+#                         check runs in place of Bellard's
 # make install            header, proved library, pkg-config file, FORMATS.md, CHANGELOG.md: below PREFIX=/usr/local; DESTDIR=
 # make uninstall          removes what install put there
 # make standin            the stand-in for the engine, in C: ENGINE=build/standin/libengine.a takes its place in any of
@@ -20,6 +22,7 @@ PREFIX = /usr/local
 P = 1000000
 KEEP =
 HALVES =
+CHECK =
 LEDGER =
 ROWS =
 SEED = 1
@@ -27,8 +30,9 @@ COUNT = 3000
 LONG = 1000000000 10000000000 100000000000
 PROCESSES =
 
-# The calls of the engine; test_CALL tests one.
+# The calls of the engine, which Bellard's runs and check runs have alike; test_CALL and test_check_CALL test one.
 CALLS = work work_lower work_upper open post sheet_write sheet_read sheet_post close
+SYMBOLS = $(CALLS:%=bbp_%) $(CALLS:%=bbp_check_%)
 
 # Not for a command line to change: install goes by it.
 override PROVED = target/staticlib/libengine.a
@@ -46,28 +50,32 @@ TEST_FLAGS = $(WARN) -pthread -D_GNU_SOURCE $(INCLUDE) -O1 -g -fsanitize=address
 PLAIN_FLAGS = $(WARN) -pthread -D_GNU_SOURCE $(INCLUDE) -O1
 PROGRAM_FLAGS = $(WARN) $(INCLUDE) $(CFLAGS)
 
-TESTS = $(CALLS) refusals tickets halves list
+# Tests that are built for each kind of runs, and all tests.
+OF_A_KIND = $(CALLS) refusals tickets halves list
+TESTS = $(OF_A_KIND) $(OF_A_KIND:%=check_%) kinds
 
-SUPPORT = common sheets vectors working reference reference_close
+# What a test is linked with: of its kind, and of both.
+SUPPORT = common sheets vectors working
+REFERENCE = reference reference_close
 HEADERS = $(wildcard include/*.h tests/*.h examples/*.h bench/*.h)
 
 # The stand-in keeps the number of the way in which it is wrong, and has no closing program.
 OF_PROVED = $(if $(filter $(PROVED),$(ENGINE)),$(1))
-COMMANDS = 'bash tests/header.sh build' 'build/test_reference' 'bash tests/mutants/run.sh build/mutants $(TESTS)' \
-	'bash tests/mutants/libraries.sh build/mutants $(STANDIN) $(CALLS)' 'bash tests/symbols.sh $(ENGINE) $(CALLS)' \
+COMMANDS = 'bash tests/header.sh build' 'build/test_reference' 'build/test_check_reference' 'bash tests/mutants/run.sh build/mutants $(TESTS)' \
+	'bash tests/mutants/libraries.sh build/mutants $(STANDIN) $(SYMBOLS)' 'bash tests/symbols.sh $(ENGINE) $(SYMBOLS)' \
 	'bash tests/branches.sh $(ENGINE)' 'bash tests/sources.sh crates montgomery::power montgomery::double' \
 	$(foreach t,$(TESTS),'$(OUT)/test_$(t) $(SEED) $(COUNT)') \
 	'bash tests/examples.sh $(OUT)/minimal $(OUT)/acceptance' \
 	'$(OUT)/published 1000000' '$(OUT)/published overlap 1000000' \
 	'bash tests/farm.sh $(OUT)/farm $(OUT)/farm-test' 'bash tests/install.sh $(CURDIR)/$(OUT)/install' \
 	$(call OF_PROVED,'bash tests/state.sh $(ENGINE)' 'bash tests/closer.sh $(CLOSER)')
-BUILT = build/test_reference $(TESTS:%=build/mutants/test_%) $(TESTS:%=$(OUT)/test_%) \
+BUILT = build/test_reference build/test_check_reference $(TESTS:%=build/mutants/test_%) $(TESTS:%=$(OUT)/test_%) \
 	$(addprefix $(OUT)/,minimal acceptance published farm) $(call OF_PROVED,$(CLOSER))
 
 .PHONY: digits rows test check bench published published-long install uninstall standin vectors clean help
 
 digits: $(OUT)/acceptance
-	@$(OUT)/acceptance $(if $(HALVES),--halves) $(if $(KEEP),--keep $(KEEP)) $(P)
+	@$(OUT)/acceptance $(if $(CHECK),--check) $(if $(HALVES),--halves) $(if $(KEEP),--keep $(KEEP)) $(P)
 
 rows: $(OUT)/acceptance
 	@$(OUT)/acceptance --rows $(LEDGER) $(ROWS)
@@ -88,8 +96,9 @@ published: $(OUT)/published
 published-long: $(OUT)/farm $(OUT)/published
 	@kept=published/$$(sha256sum $(ENGINE) | cut -c1-16); mkdir -p $$kept; \
 	for p in $(LONG); do \
-		$(OUT)/farm $$p 256 $$kept/$$p $(PROCESSES) >$$kept/$$p.closing && cat $$kept/$$p.closing && \
-		$(OUT)/published - <$$kept/$$p.closing || exit 1; \
+		closing=$$kept/$$p$(if $(CHECK),.check).closing; \
+		$(OUT)/farm $(if $(CHECK),--check) $$p 256 $$kept/$$p $(PROCESSES) >$$closing && cat $$closing && \
+		$(OUT)/published - <$$closing || exit 1; \
 	done
 
 # What is installed: a file of the tree, then its place below PREFIX.
@@ -134,27 +143,49 @@ $(STANDIN): build/plain/engine.o
 	rm -f $@
 	ar rcs $@ $<
 
-# Objects of the tests with the sanitizers, and without them for the wrong engines.
+# Objects of the tests with the sanitizers, and without them for the wrong engines; check_ is for check runs.
 build/sanitized/%.o: tests/%.c $(HEADERS)
 	@mkdir -p $(@D)
 	$(CC) $(TEST_FLAGS) -c $< -o $@
+
+build/sanitized/check_%.o: tests/%.c $(HEADERS)
+	@mkdir -p $(@D)
+	$(CC) $(TEST_FLAGS) -DCHECK_RUN -c $< -o $@
 
 build/plain/%.o: tests/%.c $(HEADERS)
 	@mkdir -p $(@D)
 	$(CC) $(PLAIN_FLAGS) -c $< -o $@
 
+build/plain/check_%.o: tests/%.c $(HEADERS)
+	@mkdir -p $(@D)
+	$(CC) $(PLAIN_FLAGS) -DCHECK_RUN -c $< -o $@
+
 build/plain/engine.o: tests/mutants/engine.c $(HEADERS)
 	@mkdir -p $(@D)
 	$(CC) $(PLAIN_FLAGS) -O2 -c $< -o $@
 
-build/test_reference: $(patsubst %,build/sanitized/%.o,test_reference $(SUPPORT))
+# OBJECTS of a folder and a kind.
+OBJECTS = $(patsubst %,$(1)/$(2)%.o,$(SUPPORT)) $(REFERENCE:%=$(1)/%.o)
+
+build/test_reference: build/sanitized/test_reference.o $(call OBJECTS,build/sanitized)
 	$(CC) $(TEST_FLAGS) $^ $(LDFLAGS) -o $@
 
-$(OUT)/test_%: build/sanitized/test_%.o $(patsubst %,build/sanitized/%.o,$(SUPPORT)) $(ENGINE)
+build/test_check_reference: build/sanitized/check_test_reference.o $(call OBJECTS,build/sanitized,check_)
+	$(CC) $(TEST_FLAGS) $^ $(LDFLAGS) -o $@
+
+$(OUT)/test_%: build/sanitized/test_%.o $(call OBJECTS,build/sanitized) $(ENGINE)
 	@mkdir -p $(@D)
 	$(CC) $(TEST_FLAGS) $^ $(LDFLAGS) -o $@
 
-build/mutants/test_%: build/plain/test_%.o $(patsubst %,build/plain/%.o,$(SUPPORT)) $(STANDIN)
+$(OUT)/test_check_%: build/sanitized/check_test_%.o $(call OBJECTS,build/sanitized,check_) $(ENGINE)
+	@mkdir -p $(@D)
+	$(CC) $(TEST_FLAGS) $^ $(LDFLAGS) -o $@
+
+build/mutants/test_%: build/plain/test_%.o $(call OBJECTS,build/plain) $(STANDIN)
+	@mkdir -p $(@D)
+	$(CC) $(PLAIN_FLAGS) $^ -o $@
+
+build/mutants/test_check_%: build/plain/check_test_%.o $(call OBJECTS,build/plain,check_) $(STANDIN)
 	@mkdir -p $(@D)
 	$(CC) $(PLAIN_FLAGS) $^ -o $@
 

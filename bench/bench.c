@@ -3,7 +3,8 @@
  * Working is compared with the plain C of bench/plain.c, and with the engine's
  * own halves, ticket by ticket and turn by turn. Figures say nothing about
  * whether answers are right; the sums are compared all the same, so that equal
- * work is timed. Last comes the stack that a half takes.
+ * work is timed. Last comes the stack that a half takes. Lines of check runs
+ * start with the word `check`; the calls that keep books are timed by Bellard's.
  */
 #define _POSIX_C_SOURCE 200809L
 
@@ -16,6 +17,7 @@
 #include <string.h>
 #include <time.h>
 
+#include "kinds.h"
 #include "plain.h"
 #include "program.h"
 
@@ -38,79 +40,98 @@ static double least(double x, double y)
     return x < y ? x : y;
 }
 
-static void engine_work(uint64_t p, uint64_t c, uint64_t row, uint64_t block, uint8_t sum[16])
+/* What the table of kinds does not have: the plain C, the step of E, and the last position in words. */
+static const struct {
+    plain_call *plain;
+    uint64_t step;
+    const char *last;
+} extras[KINDS] = {{plain_work, 10, "2^60"}, {plain_check_work, 4, "2^59"}};
+
+static void engine_work(int kind, uint64_t p, uint64_t row, uint64_t block, uint8_t sum[16])
 {
-    finished("work", bbp_work(p, c, row, block, sum, 16));
+    finished("work", kinds[kind].work(p, BLOCKS, row, block, sum, 16));
 }
 
-static void engine_halves(uint64_t p, uint64_t c, uint64_t row, uint64_t block, uint8_t sum[16])
+static void plain_c_work(int kind, uint64_t p, uint64_t row, uint64_t block, uint8_t sum[16])
+{
+    extras[kind].plain(p, BLOCKS, row, block, sum);
+}
+
+static void engine_halves(int kind, uint64_t p, uint64_t row, uint64_t block, uint8_t sum[16])
 {
     uint8_t upper[16];
-    finished("work lower", bbp_work_lower(p, c, row, block, sum, 16));
-    finished("work upper", bbp_work_upper(p, c, row, block, upper, 16));
+    finished("work lower", kinds[kind].work_lower(p, BLOCKS, row, block, sum, 16));
+    finished("work upper", kinds[kind].work_upper(p, BLOCKS, row, block, upper, 16));
     add_sum(sum, upper);
 }
 
-typedef void work(uint64_t p, uint64_t c, uint64_t row, uint64_t block, uint8_t sum[16]);
-
 enum { ENGINE, PLAIN, HALVES, WAYS };
 static const struct {
-    work *work;
+    void (*work)(int kind, uint64_t p, uint64_t row, uint64_t block, uint8_t sum[16]);
     const char *name;
-} ways[WAYS] = {{engine_work, "the engine"}, {plain_work, "the plain C"}, {engine_halves, "the engine's halves"}};
+} ways[WAYS] = {{engine_work, "the engine"}, {plain_c_work, "the plain C"}, {engine_halves, "the engine's halves"}};
 
 /* Works one ticket in each way; keeps the least time of each, and wants one sum of all. */
-static void time_ticket(int run, uint64_t row, uint64_t block, double times[WAYS])
+static void time_ticket(int kind, int run, uint64_t row, uint64_t block, double times[WAYS])
 {
     uint8_t sums[WAYS][16];
     for (int way = 0; way < WAYS; way++) {
         double began = seconds();
-        ways[way].work(runs[run].p, BLOCKS, row, block, sums[way]);
+        ways[way].work(kind, runs[run].p, row, block, sums[way]);
         times[way] = least(times[way], seconds() - began);
         if (memcmp(sums[way], sums[ENGINE], 16) != 0) {
-            fprintf(stderr, "bench: the engine and %s differ\n", ways[way].name);
+            fprintf(stderr, "bench: %sthe engine and %s differ\n", kinds[kind].word, ways[way].name);
             exit(1);
         }
     }
 }
 
 /* The least times of the tickets of a run's sample, added up; gives how many tickets there are in a row. */
-static uint64_t time_tickets(int run, double totals[WAYS])
+static uint64_t time_tickets(int kind, int run, double totals[WAYS])
 {
     static double times[BBP_ROWS * BLOCKS][WAYS];
-    uint64_t in_a_row = (BLOCKS - runs[run].first + runs[run].step - 1) / runs[run].step;
-    for (uint64_t i = 0; i < BBP_ROWS * in_a_row; i++)
+    uint64_t in_a_row = (BLOCKS - runs[run].first + runs[run].step - 1) / runs[run].step, count = kinds[kind].rows * in_a_row;
+    for (uint64_t i = 0; i < count; i++)
         for (int way = 0; way < WAYS; way++)
             times[i][way] = 1e9;
     for (int repetition = 0; repetition < REPETITIONS; repetition++)
-        for (uint64_t i = 0; i < BBP_ROWS * in_a_row; i++)
-            time_ticket(run, i / in_a_row, runs[run].first + i % in_a_row * runs[run].step, times[i]);
+        for (uint64_t i = 0; i < count; i++)
+            time_ticket(kind, run, i / in_a_row, runs[run].first + i % in_a_row * runs[run].step, times[i]);
     for (int way = 0; way < WAYS; way++)
         totals[way] = 0;
-    for (uint64_t i = 0; i < BBP_ROWS * in_a_row; i++)
+    for (uint64_t i = 0; i < count; i++)
         for (int way = 0; way < WAYS; way++)
             totals[way] += times[i][way];
     return in_a_row;
 }
 
 /* Prints the ratios and gives the engine's time for the whole run. */
-static double compare_work(int run)
+static double compare_work(int kind, int run)
 {
     double times[WAYS];
-    uint64_t in_a_row = time_tickets(run, times);
+    uint64_t in_a_row = time_tickets(kind, run, times);
     double whole = times[ENGINE] * BLOCKS / (double)in_a_row;
-    printf("p = %-10" PRIu64 " engine %.3f s, plain C %.3f s, engine / plain C %.3f; whole run about %.1f s\n", runs[run].p,
-           times[ENGINE], times[PLAIN], times[ENGINE] / times[PLAIN], whole);
-    printf("p = %-10" PRIu64 " halves %.3f s, halves / whole %.3f\n", runs[run].p, times[HALVES], times[HALVES] / times[ENGINE]);
+    printf("%sp = %-10" PRIu64 " engine %.3f s, plain C %.3f s, engine / plain C %.3f; whole run about %.1f s\n", kinds[kind].word,
+           runs[run].p, times[ENGINE], times[PLAIN], times[ENGINE] / times[PLAIN], whole);
+    printf("%sp = %-10" PRIu64 " halves %.3f s, halves / whole %.3f\n", kinds[kind].word, runs[run].p, times[HALVES],
+           times[HALVES] / times[ENGINE]);
     return whole;
 }
 
-static double terms_by_bits(uint64_t p)
+static double terms_by_bits(int kind, uint64_t p)
 {
     int bits = 0;
     for (uint64_t n = 4 * p; n > 0; n /= 2)
         bits++;
-    return (double)((4 * (p - 1) + 130) / 10 + 1) * bits;
+    return (double)((4 * (p - 1) + 130) / extras[kind].step + 1) * bits;
+}
+
+static void compare_runs(int kind)
+{
+    double near = compare_work(kind, 0), far = compare_work(kind, 1);
+    compare_work(kind, 2);
+    printf("%sfrom p = 10^6 to 10^7: time grows by %.2f, terms x bits by %.2f\n", kinds[kind].word, far / near,
+           terms_by_bits(kind, runs[1].p) / terms_by_bits(kind, runs[0].p));
 }
 
 static uint8_t ledgers[LEDGERS][BBP_LEDGER_SIZE];
@@ -187,40 +208,47 @@ static void compare_books(void)
     time_calls("closing a full ledger of C = 256", 1, nothing, close_ledger);
 }
 
-static uint8_t stack[STACK] __attribute__((aligned(4096)));
+static uint8_t stacks[KINDS][STACK] __attribute__((aligned(4096)));
 static volatile uintptr_t stack_before;
 
-static void *work_largest_half(void *unused)
+static void *work_largest_half(void *kind)
 {
+    const struct kind *of = kind;
     uint8_t sum[16];
     stack_before = (uintptr_t)__builtin_frame_address(0);
-    finished("work lower", bbp_work_lower(BBP_MAX_POSITION, 1, 0, 0, sum, 16));
-    return unused;
+    finished("work lower", of->work_lower(of->last_position, 1, 0, 0, sum, 16));
+    return NULL;
 }
 
-/* The half with the most cuts one inside the other. It never ends, so its stack is looked at while it is at work. */
-static void measure_stack(void)
+/*
+ * The half with the most cuts one inside the other. It never ends, so its stack
+ * is looked at while it is at work; nothing can be timed after that.
+ */
+static void measure_stack(int kind)
 {
     const struct timespec while_at_work = {0, 200000000};
+    uint8_t *stack = stacks[kind];
+    char title[80];
     pthread_attr_t attributes;
     pthread_t thread;
     size_t untouched = 0;
-    memset(stack, UNTOUCHED, sizeof stack);
+    memset(stack, UNTOUCHED, STACK);
     if ((errno = pthread_attr_init(&attributes)) != 0 || (errno = pthread_attr_setstack(&attributes, stack, STACK)) != 0 ||
-        (errno = pthread_create(&thread, &attributes, work_largest_half, NULL)) != 0 || nanosleep(&while_at_work, NULL) != 0)
+        (errno = pthread_create(&thread, &attributes, work_largest_half, (void *)&kinds[kind])) != 0 ||
+        nanosleep(&while_at_work, NULL) != 0)
         fail("thread");
     while (untouched < STACK && ((const volatile uint8_t *)stack)[untouched] == UNTOUCHED)
         untouched++;
-    printf("%-52s %9zu bytes\n", "stack of a half at p = 2^60, C = 1", stack_before - (uintptr_t)stack - untouched);
+    snprintf(title, sizeof title, "%sstack of a half at p = %s, C = 1", kinds[kind].word, extras[kind].last);
+    printf("%-52s %9zu bytes\n", title, stack_before - (uintptr_t)stack - untouched);
 }
 
 int main(void)
 {
-    double near = compare_work(0), far = compare_work(1);
-    compare_work(2);
-    printf("from p = 10^6 to 10^7: time grows by %.2f, terms x bits by %.2f\n", far / near,
-           terms_by_bits(runs[1].p) / terms_by_bits(runs[0].p));
+    compare_runs(BELLARD);
     compare_books();
-    measure_stack();
+    compare_runs(CHECK);
+    measure_stack(BELLARD);
+    measure_stack(CHECK);
     return 0;
 }

@@ -2,9 +2,15 @@
 
 __extension__ typedef unsigned __int128 u128;
 
-static const struct { uint64_t m, j; int64_t l; int subtracted; } rows[7] = {
+struct row {
+    uint64_t m, j;
+    int64_t l;
+    int subtracted;
+};
+static const struct row bellard_rows[7] = {
     {4, 1, -1, 1}, {4, 3, -6, 1}, {10, 1, 2, 0}, {10, 3, 0, 1}, {10, 5, -4, 1}, {10, 7, -4, 1}, {10, 9, -6, 0},
 };
+static const struct row check_rows[4] = {{8, 1, 2, 0}, {2, 1, -1, 1}, {8, 5, 0, 1}, {4, 3, -1, 1}};
 
 /* Algorithm 4. */
 static uint64_t inverse(uint64_t n)
@@ -54,7 +60,7 @@ static u128 quotient(uint64_t r, uint64_t n, uint64_t mu)
     return (u128)high << 64 | low;
 }
 
-static u128 term(uint64_t n, int64_t e)
+static inline u128 term(uint64_t n, int64_t e)
 {
     if (e < 0)
         return 0;
@@ -64,16 +70,27 @@ static u128 term(uint64_t n, int64_t e)
     return quotient(power_of_two((uint64_t)e, n, mu), n, mu);
 }
 
-void plain_work(uint64_t p, uint64_t c, uint64_t row, uint64_t block, uint8_t sum[16])
+/* The step of E and whether signs alternate are constants wherever this is called, so that each formula has a loop of its own. */
+static inline void work(const struct row row, uint64_t step, int alternate, uint64_t p, uint64_t c, uint64_t block, uint8_t sum[16])
 {
-    uint64_t terms = (4 * (p - 1) + 130) / 10 + 1;
+    uint64_t terms = (4 * (p - 1) + 130) / step + 1;
     uint64_t first = (uint64_t)((u128)block * terms / c), end = (uint64_t)((u128)(block + 1) * terms / c);
     u128 total = 0;
     for (uint64_t k = first; k < end; k++) {
-        int64_t e = (int64_t)(4 * (p - 1)) + rows[row].l - (int64_t)(10 * k) + 128;
-        u128 q = term(rows[row].m * k + rows[row].j, e);
-        total = (int)(k & 1) != rows[row].subtracted ? total - q : total + q;
+        int64_t e = (int64_t)(4 * (p - 1)) + row.l - (int64_t)(step * k) + 128;
+        u128 q = term(row.m * k + row.j, e);
+        total = (alternate && k & 1) != row.subtracted ? total - q : total + q;
     }
     for (int i = 0; i < 16; i++)
         sum[i] = (uint8_t)(total >> 8 * i);
+}
+
+void plain_work(uint64_t p, uint64_t c, uint64_t row, uint64_t block, uint8_t sum[16])
+{
+    work(bellard_rows[row], 10, 1, p, c, block, sum);
+}
+
+void plain_check_work(uint64_t p, uint64_t c, uint64_t row, uint64_t block, uint8_t sum[16])
+{
+    work(check_rows[row], 4, 0, p, c, block, sum);
 }

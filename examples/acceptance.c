@@ -1,8 +1,8 @@
 /*
- * acceptance [--halves] [--keep FILE] POSITION [BLOCKS] - opens a run, works
- * all its tickets, closes it and prints the closing line: position, number of
- * digits, digits. With --keep the ledger is written to FILE before it is
- * closed, so that it is there where the closing is refused or looks odd. FILE
+ * acceptance [--check] [--halves] [--keep FILE] POSITION [BLOCKS] - opens a
+ * run, works all its tickets, closes it and prints the closing line: position,
+ * number of digits, digits. With --keep the ledger is written to FILE before it
+ * is closed, so that it is there where the closing is refused or looks odd. FILE
  * is opened before the work: one that cannot be written is known at once.
  *
  * In each row every fourth ticket comes as a supplier's: it is written into a
@@ -11,11 +11,35 @@
  * processes, a half by each, and posted with the sum of both: the ledger and
  * the closing line are the same.
  *
+ * With --check a check run with the same position and block count is worked and
+ * closed after that run, and two more lines are printed. The first of them is
+ * the check run's closing line with the word `check` before it; the second says
+ * that the digits agree, as many as the shorter closing has:
+ *
+ *     1000 29 349F1C09B075372C980991B7B25D4
+ *     check 1000 28 349F1C09B075372C980991B7B25D
+ *     agree 28 digits
+ *
+ * or which is the first that differs, counted from 1: `differ at digit 7`. The
+ * status is then 4. Both runs are opened before any work, so that a position
+ * beyond those of check runs is refused at once. With --keep the check run's
+ * ledger is written to FILE.check, which is opened before the work as well. Where
+ * a call is refused the program ends: the lines printed before stay, and a file
+ * not written yet is empty. A call of the check run is named with the word
+ * `check` before it.
+ *
+ * A sum and a sheet do not name their formula: a ledger of the other kind can
+ * take them, and its digits would be wrong. So each run has a struct of its own
+ * with its ledger, and takes all its calls from one entry of the table in
+ * kinds.h. A sheet is written, read and posted in one function, which knows one
+ * run; the only function that is given both runs compares their digits.
+ *
  * acceptance --rows LEDGER [ROW ..] - shows which rows of a kept ledger to work
  * again. LEDGER is a file, `-` being standard input; tickets may be missing
- * from it. For each row named, for all where none is, the marked tickets are
- * worked anew, and a line has the row, its sum in the ledger and the sum of
- * these tickets modulo 2^128, both in hexadecimal:
+ * from it, and by its size it is that of a check run or not. For each row named,
+ * for all where none is, the marked tickets are worked anew, and a line has the
+ * row, its sum in the ledger and the sum of these tickets modulo 2^128, both in
+ * hexadecimal:
  *
  *     row 3 ledger aaaf9647.. worked aaaf9647..
  *
@@ -33,47 +57,59 @@
 #include <string.h>
 
 #include "halves.h"
+#include "kinds.h"
 #include "program.h"
 #include "progress.h"
 
-enum { SUPPLIED = 4, DIFFERS = 3 };
+enum { SUPPLIED = 4, ROWS_DIFFER = 3, DIGITS_DIFFER = 4 };
 
-static struct {
+struct run {
+    const struct kind *kind;
     uint64_t p, c, done;
     int by_halves;
-    uint8_t ledger[BBP_LEDGER_SIZE];
+    uint8_t ledger[BBP_LEDGER_SIZE], digits[BBP_DIGITS_SIZE]; /* a check ledger is the shorter */
+    int64_t d;
+    char *kept;
+    FILE *file;
     struct progress bar;
-} run;
+};
 
-static void open_run(uint64_t p, uint64_t c)
+static int64_t run_finished(const struct run *run, const char *call, int64_t answer)
 {
-    run.p = p;
-    run.c = c;
-    finished("open", bbp_open(p, c, run.ledger, sizeof run.ledger));
+    return finished_by(run->kind->word, call, answer);
 }
 
-static void tickets_done(uint64_t count)
+static void open_run(struct run *run, const struct kind *kind, uint64_t p, uint64_t c)
 {
-    run.done += count;
-    progress_show(&run.bar, run.done);
+    run->kind = kind;
+    run->p = p;
+    run->c = c;
+    run_finished(run, "open", kind->open(p, c, run->ledger, kind->ledger_size));
 }
 
-static void work_and_post(uint64_t row, uint64_t block)
+static void tickets_done(struct run *run, uint64_t count)
 {
+    run->done += count;
+    progress_show(&run->bar, run->done);
+}
+
+static void work_and_post(struct run *run, uint64_t row, uint64_t block)
+{
+    const struct kind *kind = run->kind;
     uint8_t sum[BBP_SUM_SIZE];
-    if (run.by_halves)
-        work_halves(run.p, run.c, row, block, sum);
+    if (run->by_halves)
+        work_halves(kind, run->p, run->c, row, block, sum);
     else
-        finished("work", bbp_work(run.p, run.c, row, block, sum, sizeof sum));
-    finished("post", bbp_post(run.ledger, sizeof run.ledger, run.p, run.c, row, block, sum, sizeof sum));
-    tickets_done(1);
+        run_finished(run, "work", kind->work(run->p, run->c, row, block, sum, sizeof sum));
+    run_finished(run, "post", kind->post(run->ledger, kind->ledger_size, run->p, run->c, row, block, sum, sizeof sum));
+    tickets_done(run, 1);
 }
 
 /* The list of a row's tickets that are supplied; gives its length. */
-static size_t supplied_list(uint64_t row, uint8_t *list)
+static size_t supplied_list(const struct run *run, uint64_t row, uint8_t *list)
 {
     size_t e = 0;
-    for (uint64_t block = SUPPLIED - 1; block < run.c; block += SUPPLIED, e++) {
+    for (uint64_t block = SUPPLIED - 1; block < run->c; block += SUPPLIED, e++) {
         list[2 * e] = (uint8_t)block;
         list[2 * e + 1] = (uint8_t)row;
     }
@@ -81,65 +117,102 @@ static size_t supplied_list(uint64_t row, uint8_t *list)
 }
 
 /* Reads a sheet back: it must hold the tickets that were ordered. */
-static void inspect(const uint8_t *sheet, size_t sheet_len, const uint8_t *list, size_t list_len)
+static void inspect(const struct run *run, const uint8_t *sheet, size_t sheet_len, const uint8_t *list, size_t list_len)
 {
-    static uint8_t found[BBP_LIST_MAX], sums[BBP_SUMS_SIZE(BBP_LIST_MAX / 2)];
-    int64_t e = finished("sheet read", bbp_sheet_read(sheet, sheet_len, found, sizeof found, sums, sizeof sums));
-    if ((size_t)e != list_len / 2 || memcmp(found, list, list_len) != 0) {
-        fputs("the sheet does not hold the tickets that were ordered\n", stderr);
+    uint8_t found[BBP_LIST_MAX], sums[BBP_SUMS_SIZE(BBP_LIST_MAX / 2)];
+    int64_t answer = run->kind->sheet_read(sheet, sheet_len, found, sizeof found, sums, sizeof sums);
+    size_t e = (size_t)run_finished(run, "sheet read", answer);
+    if (e != list_len / 2 || memcmp(found, list, list_len) != 0) {
+        fprintf(stderr, "%ssheet read: not the tickets that were ordered\n", run->kind->word);
         exit(1);
     }
 }
 
-static void order_and_post(uint64_t row)
+static void order_and_post(struct run *run, uint64_t row)
 {
-    static uint8_t list[BBP_LIST_MAX], sheet[BBP_SHEET_MAX];
-    size_t list_len = supplied_list(row, list);
-    int64_t answer = bbp_sheet_write(run.p, run.c, list, list_len, sheet, sizeof sheet);
-    size_t sheet_len = (size_t)finished("sheet write", answer);
-    inspect(sheet, sheet_len, list, list_len);
-    finished("sheet post", bbp_sheet_post(run.ledger, sizeof run.ledger, sheet, sheet_len));
-    tickets_done(list_len / 2);
+    const struct kind *kind = run->kind;
+    uint8_t list[BBP_LIST_MAX], sheet[BBP_SHEET_MAX];
+    size_t list_len = supplied_list(run, row, list);
+    int64_t answer = kind->sheet_write(run->p, run->c, list, list_len, sheet, sizeof sheet);
+    size_t sheet_len = (size_t)run_finished(run, "sheet write", answer);
+    inspect(run, sheet, sheet_len, list, list_len);
+    run_finished(run, "sheet post", kind->sheet_post(run->ledger, kind->ledger_size, sheet, sheet_len));
+    tickets_done(run, list_len / 2);
 }
 
-static void work_run(void)
+static void work_run(struct run *run)
 {
-    run.bar = progress_start(BBP_ROWS * run.c);
-    for (uint64_t row = 0; row < BBP_ROWS; row++) {
-        for (uint64_t block = 0; block < run.c; block++)
+    run->bar = progress_start(run->kind->rows * run->c);
+    for (uint64_t row = 0; row < run->kind->rows; row++) {
+        for (uint64_t block = 0; block < run->c; block++)
             if (block % SUPPLIED != SUPPLIED - 1)
-                work_and_post(row, block);
-        order_and_post(row);
+                work_and_post(run, row, block);
+        order_and_post(run, row);
     }
 }
 
-static void work_and_keep(const char *name)
+static void open_kept(struct run *run, const char *name)
 {
-    FILE *file = fopen(name, "wb");
-    if (file == NULL)
+    size_t room = strlen(name) + strlen(run->kind->suffix) + 1;
+    run->kept = malloc(room);
+    if (run->kept == NULL)
         fail(name);
-    work_run();
-    if (fwrite(run.ledger, 1, sizeof run.ledger, file) != sizeof run.ledger || fclose(file) != 0)
-        fail(name);
+    snprintf(run->kept, room, "%s%s", name, run->kind->suffix);
+    run->file = fopen(run->kept, "wb");
+    if (run->file == NULL)
+        fail(run->kept);
+}
+
+static void write_kept(struct run *run)
+{
+    size_t size = run->kind->ledger_size;
+    if (fwrite(run->ledger, 1, size, run->file) != size || fclose(run->file) != 0)
+        fail(run->kept);
+    free(run->kept);
+}
+
+/* Works a run, keeps its ledger if it has a file, closes it and prints its closing line. */
+static void finish_run(struct run *run)
+{
+    work_run(run);
+    if (run->file != NULL)
+        write_kept(run);
+    run->d = print_closing(run->kind, run->p, run->ledger, run->digits);
+}
+
+/* Gives the program's status. */
+static int compare_digits(const struct run *run, const struct run *check)
+{
+    int64_t both = run->d < check->d ? run->d : check->d, same = 0;
+    while (same < both && run->digits[same] == check->digits[same])
+        same++;
+    if (same < both)
+        printf("differ at digit %" PRId64 "\n", same + 1);
+    else
+        printf("agree %" PRId64 " digits\n", both);
+    end_output();
+    return same < both ? DIGITS_DIFFER : 0;
 }
 
 /* The rows named, each once; all where none is. */
-static void take_rows(int count, char **names, int *shown)
+static void take_rows(uint64_t rows, int count, char **names, int *shown)
 {
-    for (uint64_t row = 0; row < BBP_ROWS; row++)
+    for (uint64_t row = 0; row < rows; row++)
         shown[row] = count == 0;
     for (int i = 0; i < count; i++) {
         uint64_t row = number(names[i]);
-        if (row >= BBP_ROWS || shown[row]) {
-            fprintf(stderr, "row %s: %s\n", row >= BBP_ROWS ? "above 6" : "named twice", names[i]);
+        if (row >= rows)
+            fprintf(stderr, "row above %" PRIu64 ": %s\n", rows - 1, names[i]);
+        else if (shown[row])
+            fprintf(stderr, "row named twice: %s\n", names[i]);
+        if (row >= rows || shown[row])
             exit(2);
-        }
         shown[row] = 1;
     }
 }
 
-/* The ledger in a file, in order. Tickets may be missing, and its total may settle no digit. */
-static void read_ledger(const char *name, uint8_t *ledger, size_t room)
+/* The ledger in a file, in order; gives its kind. Tickets may be missing, and its total may settle no digit. */
+static const struct kind *read_ledger(const char *name, uint8_t *ledger, size_t room)
 {
     uint8_t digits[BBP_DIGITS_SIZE];
     FILE *file = strcmp(name, "-") == 0 ? stdin : fopen(name, "rb");
@@ -149,33 +222,35 @@ static void read_ledger(const char *name, uint8_t *ledger, size_t room)
     if (ferror(file))
         fail(name);
     fclose(file);
-    int64_t answer = bbp_close(ledger, len, digits, sizeof digits);
+    const struct kind *kind = &kinds[len == BBP_CHECK_LEDGER_SIZE ? CHECK : BELLARD];
+    int64_t answer = kind->close(ledger, len, digits, sizeof digits);
     if (answer != -BBP_REFUSED_UNMARKED && answer != -BBP_REFUSED_UNSETTLED)
         finished(name, answer);
+    return kind;
 }
 
-static int is_marked(const uint8_t *ledger, uint64_t row, uint64_t block)
+static int is_marked(const struct kind *kind, const uint8_t *ledger, uint64_t row, uint64_t block)
 {
-    return ledger[BBP_ROW_MARKS_AT(row) + block / 8] >> block % 8 & 1;
+    return ledger[kind->marks_at + 32 * row + block / 8] >> block % 8 & 1;
 }
 
-static uint64_t marked_tickets(const uint8_t *ledger, const int *shown)
+static uint64_t marked_tickets(const struct run *run, const uint8_t *ledger, const int *shown)
 {
     uint64_t count = 0;
-    for (uint64_t row = 0; row < BBP_ROWS; row++)
-        for (uint64_t block = 0; block < run.c; block++)
-            count += shown[row] && is_marked(ledger, row, block);
+    for (uint64_t row = 0; row < run->kind->rows; row++)
+        for (uint64_t block = 0; block < run->c; block++)
+            count += shown[row] && is_marked(run->kind, ledger, row, block);
     return count;
 }
 
 /* The marked tickets of the rows shown, into the run's ledger. */
-static void work_marked(const uint8_t *ledger, const int *shown)
+static void work_marked(struct run *run, const uint8_t *ledger, const int *shown)
 {
-    run.bar = progress_start(marked_tickets(ledger, shown));
-    for (uint64_t row = 0; row < BBP_ROWS; row++)
-        for (uint64_t block = 0; block < run.c; block++)
-            if (shown[row] && is_marked(ledger, row, block))
-                work_and_post(row, block);
+    run->bar = progress_start(marked_tickets(run, ledger, shown));
+    for (uint64_t row = 0; row < run->kind->rows; row++)
+        for (uint64_t block = 0; block < run->c; block++)
+            if (shown[row] && is_marked(run->kind, ledger, row, block))
+                work_and_post(run, row, block);
 }
 
 static void print_sum(const char *what, const uint8_t *sum)
@@ -186,9 +261,9 @@ static void print_sum(const char *what, const uint8_t *sum)
 }
 
 /* Prints a row's line; gives whether its sum in the ledger is not the one worked. */
-static int print_row(const uint8_t *ledger, uint64_t row)
+static int print_row(const uint8_t *ledger, const uint8_t *anew, uint64_t row)
 {
-    const uint8_t *sum = ledger + BBP_ROW_SUM_AT(row), *worked = run.ledger + BBP_ROW_SUM_AT(row);
+    const uint8_t *sum = ledger + BBP_ROW_SUM_AT(row), *worked = anew + BBP_ROW_SUM_AT(row);
     int differs = memcmp(sum, worked, BBP_SUM_SIZE) != 0;
     printf("row %" PRIu64, row);
     print_sum("ledger", sum);
@@ -200,47 +275,73 @@ static int print_row(const uint8_t *ledger, uint64_t row)
 /* Gives the program's status. A byte is read past a ledger's, so that a longer file is not taken for one. */
 static int show_rows(const char *name, int count, char **names)
 {
+    static struct run run;
     uint8_t ledger[BBP_LEDGER_SIZE + 1];
     int shown[BBP_ROWS], status = 0;
-    take_rows(count, names, shown);
-    read_ledger(name, ledger, sizeof ledger);
-    open_run(number_at(ledger, 8), number_at(ledger + 8, 2));
-    work_marked(ledger, shown);
-    for (uint64_t row = 0; row < BBP_ROWS; row++)
-        if (shown[row] && print_row(ledger, row))
-            status = DIFFERS;
+    const struct kind *kind = read_ledger(name, ledger, sizeof ledger);
+    take_rows(kind->rows, count, names, shown);
+    open_run(&run, kind, number_at(ledger, 8), number_at(ledger + 8, 2));
+    work_marked(&run, ledger, shown);
+    for (uint64_t row = 0; row < kind->rows; row++)
+        if (shown[row] && print_row(ledger, run.ledger, row))
+            status = ROWS_DIFFER;
     end_output();
     return status;
 }
 
-/* Takes --halves and --keep FILE from the front, in either order and each once; gives where the numbers start. */
-static char **take_options(char **at, const char **kept)
+struct options {
+    int check, by_halves;
+    const char *kept;
+};
+
+static int is_option(const char *word, const char *option)
+{
+    return word != NULL && strcmp(word, option) == 0;
+}
+
+/* Takes the options from the front, in any order and each once; gives where the numbers start. */
+static char **take_options(char **at, struct options *taken)
 {
     for (;; at++)
-        if (*at != NULL && strcmp(*at, "--halves") == 0 && !run.by_halves)
-            run.by_halves = 1;
-        else if (*at != NULL && strcmp(*at, "--keep") == 0 && at[1] != NULL && *kept == NULL)
-            *kept = *++at;
+        if (is_option(*at, "--check") && !taken->check)
+            taken->check = 1;
+        else if (is_option(*at, "--halves") && !taken->by_halves)
+            taken->by_halves = 1;
+        else if (is_option(*at, "--keep") && at[1] != NULL && taken->kept == NULL)
+            taken->kept = *++at;
         else
             return at;
 }
 
+/* All that can be refused or fail before the work comes first, for both runs. Gives the program's status. */
+static int accept_runs(const struct options *options, uint64_t p, uint64_t c)
+{
+    static struct run runs[KINDS];
+    int count = options->check ? KINDS : 1;
+    for (int i = 0; i < count; i++)
+        open_run(&runs[i], &kinds[i], p, c);
+    for (int i = 0; i < count; i++) {
+        runs[i].by_halves = options->by_halves;
+        if (options->kept != NULL)
+            open_kept(&runs[i], options->kept);
+    }
+    for (int i = 0; i < count; i++)
+        finish_run(&runs[i]);
+    return options->check ? compare_digits(&runs[BELLARD], &runs[CHECK]) : 0;
+}
+
 int main(int argc, char **argv)
 {
-    const char *kept = NULL;
+    struct options options = {0, 0, NULL};
     if (argc > 2 && strcmp(argv[1], "--rows") == 0)
         return show_rows(argv[2], argc - 3, argv + 3);
-    char **numbers = take_options(argv + 1, &kept);
+    char **numbers = take_options(argv + 1, &options);
     int count = (int)(argv + argc - numbers);
     if (count < 1 || count > 2 || numbers[0][0] == '-') {
-        fputs("usage: acceptance [--halves] [--keep FILE] POSITION [BLOCKS]\n       acceptance --rows LEDGER [ROW ..]\n", stderr);
+        fputs("usage: acceptance [--check] [--halves] [--keep FILE] POSITION [BLOCKS]\n"
+              "       acceptance --rows LEDGER [ROW ..]\n",
+              stderr);
         return 2;
     }
-    open_run(number(numbers[0]), count == 2 ? number(numbers[1]) : BBP_MAX_BLOCKS);
-    if (kept != NULL)
-        work_and_keep(kept);
-    else
-        work_run();
-    print_closing(run.p, run.ledger);
-    return 0;
+    return accept_runs(&options, number(numbers[0]), count == 2 ? number(numbers[1]) : BBP_MAX_BLOCKS);
 }

@@ -1,20 +1,33 @@
 /*
- * formats - prints the worked examples of docs/FORMATS.md, each with its
- * title: the run p = 1, C = 14 from opening to closing, the halves of a ticket,
- * and the sums of another run.
+ * formats - prints the worked examples of docs/FORMATS.md, each with its title:
+ * a run at p = 1 from opening to closing, the halves of a ticket, and the sums
+ * of another run; first of a Bellard run, then the same of a check run, with
+ * the word `check` before its titles.
  */
 #include <bbp.h>
 
 #include <stdio.h>
 
+#include "kinds.h"
 #include "program.h"
 
-enum { P = 1, C = 14, LINE = 16 };
+enum { P = 1, LINE = 16 };
 
-static uint8_t ledger[BBP_LEDGER_SIZE];
+struct ticket {
+    uint64_t c, row, block;
+};
 
-/* Tickets (0, 0) and (3, 1), as a list has them. */
-static const uint8_t list[] = {0, 0, 1, 3};
+/* A run at P with a term in each block, two of its tickets, which come on a sheet, and a ticket that is halved. */
+struct example {
+    const struct kind *kind;
+    struct ticket posted[2], halved;
+    uint8_t ledger[BBP_LEDGER_SIZE]; /* a check ledger is the shorter */
+};
+
+static struct example examples[KINDS] = {
+    {&kinds[BELLARD], {{14, 0, 0}, {14, 3, 1}}, {3, 2, 2}, {0}},
+    {&kinds[CHECK], {{33, 0, 1}, {33, 2, 1}}, {7, 1, 6}, {0}},
+};
 
 static int is_zero(const uint8_t *line, size_t len)
 {
@@ -24,9 +37,9 @@ static int is_zero(const uint8_t *line, size_t len)
 }
 
 /* Lines of 16 bytes with the place of the first; lines of zeros alone are left out. */
-static void print_bytes(const char *title, const uint8_t *bytes, size_t len)
+static void print_bytes(const struct example *example, const char *title, const uint8_t *bytes, size_t len)
 {
-    printf("%s\n", title);
+    printf("%s%s\n", example->kind->word, title);
     for (size_t at = 0; at < len; at += LINE) {
         size_t count = len - at < LINE ? len - at : LINE;
         if (is_zero(bytes + at, count))
@@ -38,72 +51,98 @@ static void print_bytes(const char *title, const uint8_t *bytes, size_t len)
     }
 }
 
-typedef int64_t work_call(uint64_t p, uint64_t c, uint64_t row, uint64_t block, uint8_t *sum, size_t sum_len);
+static void print_ledger(const struct example *example, const char *title)
+{
+    print_bytes(example, title, example->ledger, example->kind->ledger_size);
+}
 
-static void print_sum_by(work_call *call, const char *of, uint64_t p, uint64_t c, uint64_t row, uint64_t block)
+static void print_sum_by(const struct example *example, work_call *call, const char *of, uint64_t p, struct ticket ticket)
 {
     uint8_t sum[BBP_SUM_SIZE];
     char title[80];
-    snprintf(title, sizeof title, "sum of %sticket (%" PRIu64 ", %" PRIu64 ") of p = %" PRIu64 ", C = %" PRIu64, of, row, block,
-             p, c);
-    finished("work", call(p, c, row, block, sum, sizeof sum));
-    print_bytes(title, sum, sizeof sum);
+    snprintf(title, sizeof title, "sum of %sticket (%" PRIu64 ", %" PRIu64 ") of p = %" PRIu64 ", C = %" PRIu64, of, ticket.row,
+             ticket.block, p, ticket.c);
+    finished("work", call(p, ticket.c, ticket.row, ticket.block, sum, sizeof sum));
+    print_bytes(example, title, sum, sizeof sum);
 }
 
-static void print_sum(uint64_t p, uint64_t c, uint64_t row, uint64_t block)
+static void print_sum(const struct example *example, uint64_t p, struct ticket ticket)
 {
-    print_sum_by(bbp_work, "", p, c, row, block);
+    print_sum_by(example, example->kind->work, "", p, ticket);
 }
 
-static void post_sheet(void)
+static void print_halves(const struct example *example)
 {
-    uint8_t sheet[BBP_SHEET_SIZE(2)];
-    finished("sheet write", bbp_sheet_write(P, C, list, sizeof list, sheet, sizeof sheet));
-    print_bytes("sheet of tickets (0, 0) and (3, 1)", sheet, sizeof sheet);
-    finished("sheet post", bbp_sheet_post(ledger, sizeof ledger, sheet, sizeof sheet));
-    print_bytes("ledger after posting that sheet", ledger, sizeof ledger);
+    print_sum_by(example, example->kind->work_lower, "the lower half of ", P, example->halved);
+    print_sum_by(example, example->kind->work_upper, "the upper half of ", P, example->halved);
+    print_sum(example, P, example->halved);
+}
+
+static void post_sheet(struct example *example)
+{
+    const struct kind *kind = example->kind;
+    const struct ticket *tickets = example->posted;
+    uint8_t list[BBP_LIST_SIZE(2)], sheet[BBP_SHEET_SIZE(2)];
+    char title[80], names[40];
+    for (int i = 0; i < 2; i++)
+        list[2 * i] = (uint8_t)tickets[i].block, list[2 * i + 1] = (uint8_t)tickets[i].row;
+    snprintf(names, sizeof names, "of tickets (%d, %d) and (%d, %d)", list[1], list[0], list[3], list[2]);
+    snprintf(title, sizeof title, "list %s", names);
+    print_bytes(example, title, list, sizeof list);
+    finished("sheet write", kind->sheet_write(P, tickets[0].c, list, sizeof list, sheet, sizeof sheet));
+    snprintf(title, sizeof title, "sheet %s", names);
+    print_bytes(example, title, sheet, sizeof sheet);
+    finished("sheet post", kind->sheet_post(example->ledger, kind->ledger_size, sheet, sizeof sheet));
+    print_ledger(example, "ledger after posting that sheet");
 }
 
 /* Every ticket once: those of the sheet are refused a second time. */
-static void post_rest(void)
+static void post_rest(struct example *example)
 {
+    const struct kind *kind = example->kind;
+    uint64_t c = example->posted[0].c;
     uint8_t sum[BBP_SUM_SIZE];
-    for (uint64_t row = 0; row < BBP_ROWS; row++)
-        for (uint64_t block = 0; block < C; block++) {
-            finished("work", bbp_work(P, C, row, block, sum, sizeof sum));
-            int64_t answer = bbp_post(ledger, sizeof ledger, P, C, row, block, sum, sizeof sum);
+    for (uint64_t row = 0; row < kind->rows; row++)
+        for (uint64_t block = 0; block < c; block++) {
+            finished("work", kind->work(P, c, row, block, sum, sizeof sum));
+            int64_t answer = kind->post(example->ledger, kind->ledger_size, P, c, row, block, sum, sizeof sum);
             if (answer != -BBP_REFUSED_MARKED)
                 finished("post", answer);
         }
 }
 
 /* The row sums added up modulo 2^128, as closing adds them. */
-static void print_total(void)
+static void print_total(const struct example *example)
 {
     uint8_t total[BBP_SUM_SIZE] = {0};
-    for (int row = 0; row < BBP_ROWS; row++)
-        add_sum(total, ledger + BBP_ROW_SUM_AT(row));
-    print_bytes("total of its row sums", total, sizeof total);
+    for (uint64_t row = 0; row < example->kind->rows; row++)
+        add_sum(total, example->ledger + BBP_ROW_SUM_AT(row));
+    print_bytes(example, "total of its row sums", total, sizeof total);
+}
+
+static void print_example(struct example *example)
+{
+    const struct kind *kind = example->kind;
+    uint8_t digits[BBP_DIGITS_SIZE];
+    print_sum(example, P, example->posted[0]);
+    print_sum(example, P, example->posted[1]);
+    print_halves(example);
+    finished("open", kind->open(P, example->posted[0].c, example->ledger, kind->ledger_size));
+    print_ledger(example, "ledger, fresh");
+    post_sheet(example);
+    post_rest(example);
+    print_ledger(example, "ledger with every ticket posted");
+    print_total(example);
+    printf("its closing: position, d, digits\n");
+    print_closing(kind, P, example->ledger, digits);
+    for (uint64_t row = 0; row < kind->rows; row++)
+        print_sum(example, 1000, (struct ticket){1, row, 0});
 }
 
 int main(void)
 {
-    print_sum(P, C, 0, 0);
-    print_sum(P, C, 3, 1);
-    print_sum_by(bbp_work_lower, "the lower half of ", P, 3, 2, 2);
-    print_sum_by(bbp_work_upper, "the upper half of ", P, 3, 2, 2);
-    print_sum(P, 3, 2, 2);
-    finished("open", bbp_open(P, C, ledger, sizeof ledger));
-    print_bytes("ledger, fresh", ledger, sizeof ledger);
-    print_bytes("list of tickets (0, 0) and (3, 1)", list, sizeof list);
-    post_sheet();
-    post_rest();
-    print_bytes("ledger with every ticket posted", ledger, sizeof ledger);
-    print_total();
-    printf("its closing: position, d, digits\n");
-    print_closing(P, ledger);
-    for (uint64_t row = 0; row < BBP_ROWS; row++)
-        print_sum(1000, 1, row, 0);
+    for (int kind = 0; kind < KINDS; kind++)
+        print_example(&examples[kind]);
     end_output();
     return 0;
 }

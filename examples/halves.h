@@ -8,6 +8,7 @@
 
 #include <bbp.h>
 
+#include "kinds.h"
 #include "process.h"
 #include "program.h"
 
@@ -17,11 +18,11 @@ struct half {
 };
 
 /* The child's part. So few bytes are written whole or not at all. */
-static void hand_over_upper(int pipe_end, uint64_t p, uint64_t c, uint64_t row, uint64_t block)
+static void hand_over(int pipe_end, work_call *work, uint64_t p, uint64_t c, uint64_t row, uint64_t block)
 {
-    struct half upper = {0, {0}};
-    upper.answer = bbp_work_upper(p, c, row, block, upper.sum, sizeof upper.sum);
-    _exit(write(pipe_end, &upper, sizeof upper) == sizeof upper ? 0 : 1);
+    struct half half = {0, {0}};
+    half.answer = work(p, c, row, block, half.sum, sizeof half.sum);
+    _exit(write(pipe_end, &half, sizeof half) == sizeof half ? 0 : 1);
 }
 
 /* What the child handed over; a child that ends in another way ends the program. It is waited for in any case. */
@@ -41,19 +42,19 @@ static struct half upper_from(pid_t child, int pipe_end)
 }
 
 /* Writes the ticket's sum; a refusal of either half ends the program. */
-static void work_halves(uint64_t p, uint64_t c, uint64_t row, uint64_t block, uint8_t *sum)
+static void work_halves(const struct kind *kind, uint64_t p, uint64_t c, uint64_t row, uint64_t block, uint8_t *sum)
 {
     int ends[2];
     if (pipe(ends) != 0)
         fail("pipe");
     pid_t child = start_process();
     if (child == 0)
-        hand_over_upper(ends[1], p, c, row, block);
+        hand_over(ends[1], kind->work_upper, p, c, row, block);
     close(ends[1]);
-    int64_t answer = bbp_work_lower(p, c, row, block, sum, BBP_SUM_SIZE);
+    int64_t answer = kind->work_lower(p, c, row, block, sum, BBP_SUM_SIZE);
     struct half upper = upper_from(child, ends[0]);
-    finished("work lower", answer);
-    finished("work upper", upper.answer);
+    finished_by(kind->word, "work lower", answer);
+    finished_by(kind->word, "work upper", upper.answer);
     add_sum(sum, upper.sum);
 }
 

@@ -1,4 +1,4 @@
-/* What the programs over bbp.h share: numbers in arguments and in bytes, sums, refusals in words, the closing line. */
+/* What the programs over bbp.h share: numbers in arguments and in bytes, sums, refusals in words, the end of the output. */
 #ifndef PROGRAM_H
 #define PROGRAM_H
 
@@ -47,7 +47,7 @@ static inline const char *meaning(int64_t answer)
     case BBP_REFUSED_SIZE: return "a slice of the wrong size";
     case BBP_REFUSED_RANGE: return "position or block count out of range";
     case BBP_REFUSED_FORM: return "list or sheet not in its form";
-    case BBP_REFUSED_TICKET: return "row above 6, or block not below the block count";
+    case BBP_REFUSED_TICKET: return "row not one of the formula's, or block not below the block count";
     case BBP_REFUSED_LEDGER: return "ledger not in order";
     case BBP_REFUSED_RUN: return "ticket or sheet of another run than the ledger's";
     case BBP_REFUSED_MARKED: return "ticket marked already";
@@ -57,14 +57,19 @@ static inline const char *meaning(int64_t answer)
     }
 }
 
-/* Gives the answer of a finished call; a refusal ends the program. */
-static inline int64_t finished(const char *call, int64_t answer)
+/* Gives the answer of a finished call; a refusal ends the program. `word` is that of the kind of run. */
+static inline int64_t finished_by(const char *word, const char *call, int64_t answer)
 {
     if (answer < 0) {
-        fprintf(stderr, "%s: refused %" PRId64 ": %s\n", call, -answer, meaning(answer));
+        fprintf(stderr, "%s%s: refused %" PRId64 ": %s\n", word, call, -answer, meaning(answer));
         exit(1);
     }
     return answer;
+}
+
+static inline int64_t finished(const char *call, int64_t answer)
+{
+    return finished_by("", call, answer);
 }
 
 /* What the system did not do, in words; ends the program. */
@@ -79,15 +84,6 @@ static inline void end_output(void)
 {
     if (fflush(stdout) != 0 || ferror(stdout))
         fail("standard output");
-}
-
-/* Closes a ledger and prints position, number of digits, digits. */
-static inline void print_closing(uint64_t p, const uint8_t *ledger)
-{
-    uint8_t digits[BBP_DIGITS_SIZE];
-    int64_t d = finished("close", bbp_close(ledger, BBP_LEDGER_SIZE, digits, sizeof digits));
-    printf("%" PRIu64 " %" PRId64 " %.*s\n", p, d, (int)d, (const char *)digits);
-    end_output();
 }
 
 #endif

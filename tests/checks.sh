@@ -39,7 +39,20 @@ unwritable() {
     same "the status of $* without standard output" $? 1
 }
 
-# wrapped PROGRAM SOURCE LINE.. - builds the source with these lines of C behind the header, which define calls anew.
+# parameters CALL - as the header declares them.
+parameters() { tr -s '\n ' ' ' <include/bbp.h | sed -n "s/.* int64_t $1(\([^)]*\));.*/\1/p"; }
+
+# call CALL - C of the call with the names that the header has for its arguments.
+call() { echo "$1($(parameters "$1" | sed 's/[^,]*[ *]\([a-z_]*\)/\1/g; s/,/, /g'))"; }
+
+# instead CALL EXPRESSION - C after which CALL gives the expression, also where its address is taken. In it the arguments
+# have the names that the header has for them, and a call of CALL goes to the engine.
+instead() {
+    printf 'static int64_t instead_of_%s(%s)\n{ return %s; }\n#define %s instead_of_%s\n' \
+        "$1" "$(parameters "$1")" "$2" "$1" "$1"
+}
+
+# wrapped PROGRAM SOURCE LINE.. - builds the source with these lines of C behind the header.
 wrapped() {
     local program=$1 source=$2
     shift 2
@@ -52,7 +65,7 @@ wrapped() {
 refusing() {
     local source=$1 call=$2
     shift 2
-    wrapped refusing "$source" "#define $call(...) INT64_C(-7)"
+    wrapped refusing "$source" "$(instead "$call" -7)"
     ends 1 "$scratch/refusing" "$@"
 }
 

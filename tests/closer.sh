@@ -1,6 +1,6 @@
 #!/usr/bin/env bash
 # closer.sh PROGRAM - the closing program on the marked closings of document 01, with the total in one row and
-# spread over the rows, on damaged ledgers, on a ledger of version 1.0.0, and on input of other sizes.
+# spread over the rows, on damaged ledgers, on a ledger of version 1.0.0, on a check ledger, and on input of other sizes.
 set -eu
 program=$1
 checks=0
@@ -38,6 +38,14 @@ ledger_of_version_1() {
     head_of 1 1
     number 16 32
     marks 1
+}
+
+# A full ledger of the check run p = 1, C = 1, 208 bytes: four rows, and the total, 100, in the first.
+check_ledger() {
+    head_of 1 1
+    local sum
+    for sum in 64 0 0 0; do number 16 "$sum"; done
+    marks 1 | head -c 128
 }
 
 # expect LINE LABEL - standard input is closed: the line, its end and status 0 come out, and nothing else.
@@ -95,11 +103,12 @@ try '1000000 26 88888888888888888888888888' 'position 10^6, past 2^128 once' \
     ledger f4240 1 1 "$ones" 0 0 0 0 0 88888888888888888888888888888889
 
 # refused: 1, the size
-for size in 0 1 100 255 256 351; do try 'refused 1' "$size bytes" first "$size"; done
+for size in 0 1 100 207 208 209 255 256 351; do try 'refused 1' "$size bytes" first "$size"; done
 for more in 1 352 3744 3745 65536 99648; do try 'refused 1' "$more bytes more" longer "$more"; done
 try 'refused 1' '100,000 zeros' zeros 100000
 try 'refused 1' '256 zeros' zeros 256
 try 'refused 1' 'a full ledger of version 1.0.0' ledger_of_version_1
+try 'refused 1' 'a full check ledger' check_ledger
 
 # refused: 5, the order
 try 'refused 5' 'zeros' zeros 352

@@ -21,7 +21,7 @@ static void on_fault(int number, siginfo_t *info, void *context)
 {
     (void)number;
     (void)context;
-    dprintf(STDERR_FILENO, "%s, seed %" PRIu64 ", after check %" PRIu64 ": no access to %p is allowed\n", test_name,
+    dprintf(STDERR_FILENO, TEST_PREFIX "%s, seed %" PRIu64 ", after check %" PRIu64 ": no access to %p is allowed\n", test_name,
             seed, checks, info->si_addr);
     _exit(1);
 }
@@ -44,7 +44,7 @@ void start(const char *name, int argc, char **argv)
 
 int finish(void)
 {
-    printf("%s: %" PRIu64 " checks\n", test_name, checks);
+    printf(TEST_PREFIX "%s: %" PRIu64 " checks\n", test_name, checks);
     return 0;
 }
 
@@ -59,7 +59,7 @@ void check(int holds, const char *file, int line, const char *format, ...)
     checks++;
     if (holds)
         return;
-    fprintf(stderr, "%s:%d: %s, seed %" PRIu64 ", check %" PRIu64 ": ", file, line, test_name, seed, checks);
+    fprintf(stderr, "%s:%d: " TEST_PREFIX "%s, seed %" PRIu64 ", check %" PRIu64 ": ", file, line, test_name, seed, checks);
     va_start(arguments, format);
     vfprintf(stderr, format, arguments);
     va_end(arguments);
@@ -96,9 +96,9 @@ uint64_t bad_position(void)
 {
     switch (below(4)) {
     case 0: return 0;
-    case 1: return BBP_MAX_POSITION + 1;
+    case 1: return LAST_POSITION + 1;
     case 2: return UINT64_MAX - below(3);
-    default: return BBP_MAX_POSITION + 1 + (any() >> (4 + below(60)));
+    default: return LAST_POSITION + 1 + (any() >> (4 + below(60)));
     }
 }
 
@@ -126,7 +126,7 @@ uint64_t any_position_upto(uint64_t limit)
 
 uint64_t any_position(void)
 {
-    return below(8) == 0 ? BBP_MAX_POSITION - below(3) : any_position_upto(BBP_MAX_POSITION);
+    return below(8) == 0 ? LAST_POSITION - below(3) : any_position_upto(LAST_POSITION);
 }
 
 uint64_t any_blocks(void)
@@ -144,7 +144,11 @@ size_t wrong_size(size_t size)
 
 size_t wrong_ledger_size(void)
 {
-    return below(8) == 0 ? 256 : wrong_size(BBP_LEDGER_SIZE);
+    switch (below(8)) {
+    case 0: return 256;
+    case 1: return OTHER_LEDGER_SIZE;
+    default: return wrong_size(LEDGER_SIZE);
+    }
 }
 
 void every_ledger_size(void (*prepare)(void), int64_t (*compare)(void), size_t *ledger_len, int64_t answer)
@@ -152,7 +156,7 @@ void every_ledger_size(void (*prepare)(void), int64_t (*compare)(void), size_t *
     for (size_t len = 0; len <= LEDGER_ROOM; len++) {
         prepare();
         *ledger_len = len;
-        CHECK(compare() == (len == BBP_LEDGER_SIZE ? answer : -1), "a ledger of %zu bytes", len);
+        CHECK(compare() == (len == LEDGER_SIZE ? answer : -1), "a ledger of %zu bytes", len);
     }
 }
 
@@ -323,7 +327,7 @@ static int status_of_child(void (*call)(void), suseconds_t microseconds)
         _exit(0);
     }
     if (child < 0 || waitpid(child, &status, 0) != child || (WIFEXITED(status) && WEXITSTATUS(status) == 2)) {
-        fprintf(stderr, "%s: no child process\n", test_name);
+        fprintf(stderr, TEST_PREFIX "%s: no child process\n", test_name);
         exit(2);
     }
     return status;
@@ -403,12 +407,12 @@ ref_u128 any_sum(void)
 
 void set_row_sum(uint8_t *ledger, uint64_t row, ref_u128 sum)
 {
-    put_sum(ledger + BBP_ROW_SUM_AT(row), sum);
+    put_sum(ledger + SUM_AT(row), sum);
 }
 
 void set_mark(uint8_t *ledger, uint64_t row, uint64_t block, int marked)
 {
-    uint8_t bit = (uint8_t)(1 << block % 8), *at = ledger + BBP_ROW_MARKS_AT(row) + block / 8;
+    uint8_t bit = (uint8_t)(1 << block % 8), *at = ledger + MARKS_AT(row) + block / 8;
     *at = (uint8_t)(marked ? *at | bit : *at & ~bit);
 }
 
@@ -426,9 +430,9 @@ static void put_run(uint8_t *bytes, uint64_t p, uint64_t c)
 
 void any_ledger(uint8_t *ledger, uint64_t p, uint64_t c, uint64_t chance)
 {
-    memset(ledger, 0, BBP_LEDGER_SIZE);
+    memset(ledger, 0, LEDGER_SIZE);
     put_run(ledger, p, c);
-    for (uint64_t row = 0; row < BBP_ROWS; row++) {
+    for (uint64_t row = 0; row < ROWS; row++) {
         set_row_sum(ledger, row, any_sum());
         for (uint64_t block = 0; block < c; block++)
             set_mark(ledger, row, block, below(256) < chance);
@@ -444,7 +448,7 @@ void patch(uint8_t *bytes, const struct patch patches[PATCHES])
 void make_ledger(uint8_t *ledger, const struct ledger_form *form)
 {
     any_ledger(ledger, form->p, form->c, form->marked ? 256 : 0);
-    for (uint64_t row = 0; row < BBP_ROWS; row++)
+    for (uint64_t row = 0; row < ROWS; row++)
         set_row_sum(ledger, row, 0);
     patch(ledger, form->patches);
 }
@@ -453,7 +457,7 @@ static void mark_beyond(uint8_t *ledger)
 {
     uint64_t c = ref_load(ledger + 8, 2);
     if (c < 256)
-        set_mark(ledger, below(7), below(2) == 0 ? c : c + below(256 - c), 1);
+        set_mark(ledger, below(ROWS), below(2) == 0 ? c : c + below(256 - c), 1);
     else
         put(ledger + 8, 2, 257 + below(65535 - 257));
 }
@@ -462,7 +466,7 @@ void spoil_ledger(uint8_t *ledger)
 {
     switch (below(7)) {
     case 0: put(ledger, 8, 0); break;
-    case 1: put(ledger, 8, BBP_MAX_POSITION + 1 + (any() >> (4 + below(60)))); break;
+    case 1: put(ledger, 8, LAST_POSITION + 1 + (any() >> (4 + below(60)))); break;
     case 2: put(ledger + 8, 2, 0); break;
     case 3: put(ledger + 8, 2, 257 + below(65536 - 257)); break;
     case 4: ledger[10 + below(6)] = (uint8_t)(1 << below(8)); break;
@@ -473,17 +477,17 @@ void spoil_ledger(uint8_t *ledger)
 size_t any_list(uint8_t *list, uint64_t c, uint64_t chance)
 {
     size_t e = 0;
-    for (uint64_t row = 0; row < 7; row++)
+    for (uint64_t row = 0; row < ROWS; row++)
         for (uint64_t block = 0; block < c; block++)
             if (below(256) < chance)
-                put(list + 2 * e++, 2, BBP_PAIR(row, block));
+                put(list + 2 * e++, 2, PAIR(row, block));
     return e;
 }
 
 void first_pairs(uint8_t *list, uint64_t blocks, size_t e)
 {
     for (size_t i = 0; i < e; i++)
-        put(list + 2 * i, 2, BBP_PAIR(i / blocks, i % blocks));
+        put(list + 2 * i, 2, PAIR(i / blocks, i % blocks));
 }
 
 size_t any_sheet(uint8_t *sheet, uint64_t p, uint64_t c, const uint8_t *list, size_t e)
@@ -496,7 +500,7 @@ size_t any_sheet(uint8_t *sheet, uint64_t p, uint64_t c, const uint8_t *list, si
         sheet[18 + 4 * i] = list[2 * i];
     }
     any_bytes(sheet + 16 + 4 * e, 16 * e);
-    return BBP_SHEET_SIZE(e);
+    return SHEET_SIZE(e);
 }
 
 /* Cases. */

@@ -8,10 +8,9 @@
 #include <stddef.h>
 #include <stdint.h>
 
-#include "bbp.h"
-#include "reference.h"
+#include "kind.h"
 
-/* Arguments of a test program: its seed and its count of random cases; both have a default. */
+/* The name without the kind of runs. Arguments of a test program: its seed and its count of random cases; both have a default. */
 void start(const char *name, int argc, char **argv);
 /* Prints the number of checks and gives the exit status. */
 int finish(void);
@@ -30,7 +29,7 @@ uint64_t any_position_upto(uint64_t limit);
 uint64_t any_blocks(void);
 /* A size that is wrong for a slice that must have `size` bytes; at most 64 more. */
 size_t wrong_size(size_t size);
-/* A size that is wrong for a ledger, also the 256 bytes of version 1.0.0. */
+/* A size that is wrong for a ledger, also that of the other kind and the 256 bytes of version 1.0.0. */
 size_t wrong_ledger_size(void);
 
 /*
@@ -62,7 +61,7 @@ int still_working(void (*call)(void));
 /* Whether a call, made in a child process, comes back; a check that fails there ends the child. */
 int comes_back(void (*call)(void));
 
-/* A call that works a ticket or a half of one: bbp_work, bbp_work_lower, bbp_work_upper, and the reference's. */
+/* A call that works a ticket or a half of one. */
 typedef int64_t work_call(uint64_t p, uint64_t c, uint64_t row, uint64_t block, uint8_t *sum, size_t sum_len);
 
 /* A copy on the heap, for the reference; freed by the caller. */
@@ -89,8 +88,12 @@ struct patch {
 };
 #define UNPATCHED {{0, 0, 0}}
 void patch(uint8_t *bytes, const struct patch patches[PATCHES]);
-/* A ledger of a case: of p, C and sums 0, with no ticket or every ticket marked, then patched; lent in `len` bytes. */
-enum { LEDGER_ROOM = BBP_LEDGER_SIZE + 64 };
+/*
+ * A ledger of a case: of p, C and sums 0, with no ticket or every ticket
+ * marked, then patched; lent in `len` bytes. There is room for a ledger of
+ * either kind and some bytes more.
+ */
+enum { LEDGER_ROOM = 352 + 64 };
 struct ledger_form {
     size_t len;
     uint64_t p, c;

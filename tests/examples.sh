@@ -1,7 +1,7 @@
 #!/usr/bin/env bash
 # examples.sh MINIMAL ACCEPTANCE - the examples, run: digits of pi at 1 and 1,000, refusals, arguments that are no
-# numbers, output that cannot be written, tickets worked by halves, ledgers kept and their rows shown, and the bytes that
-# docs/FORMATS.md shows.
+# numbers, output that cannot be written, tickets worked by halves, check runs beside the others, ledgers of both kinds
+# kept and their rows shown, and the bytes that docs/FORMATS.md shows.
 # ENGINE is the library that they are built with.
 set -u
 minimal=$1
@@ -9,35 +9,44 @@ acceptance=$2
 name=examples
 . "$(dirname "$0")/checks.sh"
 ledger=$scratch/ledger
+digits=349F1C09B075372C980991B7B25D
+line="1000 29 ${digits}4"
+check_line="check 1000 28 $digits"
+both=$line$'\n'$check_line$'\nagree 28 digits'
+out_of_range="refused 2: position or block count out of range"
 wrong_size="a slice of the wrong size"
 
-same minimal "$("$minimal")" 349F1C09B075372C980991B7B25D4
+same minimal "$("$minimal")" "${line##* }"
 same "acceptance 1" "$("$acceptance" 1)" "1 30 243F6A8885A308D313198A2E037073"
 same "acceptance 1 1" "$("$acceptance" 1 1)" "1 30 243F6A8885A308D313198A2E037073"
-same "acceptance 1000 3" "$("$acceptance" 1000 3)" "1000 29 349F1C09B075372C980991B7B25D4"
-same "acceptance 1000 256" "$("$acceptance" 1000 256)" "1000 29 349F1C09B075372C980991B7B25D4"
+same "acceptance 1000 3" "$("$acceptance" 1000 3)" "$line"
+same "acceptance 1000 256" "$("$acceptance" 1000 256)" "$line"
 
-for run in 0 '1 0' '1 257' 1152921504606846977 18446744073709551615 '--halves 0' '--halves 1 257'; do
+for run in 0 '1 0' '1 257' 1152921504606846977 18446744073709551615 '--halves 0' '--halves 1 257' '--check 0' \
+    '--check 1 257' '--check 1152921504606846977'; do
     ends 1 "$acceptance" $run
-    same "what acceptance $run says" "$said" "open: refused 2: position or block count out of range"
+    same "what acceptance $run says" "$said" "open: $out_of_range"
 done
 
 # 2^64 + 1,000 would be 1,000 in 64 bits.
-for word in '' 1000x x ' 1000' +1000 -1000 1e3 0x3e8 18446744073709551616 18446744073709552616; do
+for word in '' 1000x x ' 1000' +1000 -1000 1e3 --check 0x3e8 18446744073709551616 18446744073709552616; do
     ends 2 "$acceptance" "$word"
     ends 2 "$acceptance" 1000 "$word"
     ends 2 "$acceptance" --keep "$ledger" "$word"
     ends 2 "$acceptance" --keep "$ledger" 1000 "$word"
     ends 2 "$acceptance" --halves "$word"
     ends 2 "$acceptance" --halves 1000 "$word"
+    ends 2 "$acceptance" --check "$word"
+    ends 2 "$acceptance" --check 1000 "$word"
 done
 for words in '' '1 2 3' --rows --keep "--keep $ledger" "--keep $ledger 1 2 3" '--row 1' '--help' --halves '--halves 1 2 3' \
     '--halves --halves 1' '--half 1' '--halves --keep' "--halves --keep $ledger" "--keep $ledger --halves" \
-    "--keep $ledger --keep $ledger 1" "--halves --rows $ledger"; do
+    "--keep $ledger --keep $ledger 1" "--halves --rows $ledger" --check '--check 1 2 3' '--check --check 1' '--checks 1' \
+    '--check --halves --check 1' '--check --keep' "--check --keep $ledger" "--check --rows $ledger"; do
     ends 2 "$acceptance" $words
     same "what acceptance $words says" "${said%%:*}" usage
 done
-same "a ledger kept from arguments that are refused" "$(ls "$ledger" 2>/dev/null)" ""
+same "ledgers kept from arguments that are refused" "$(ls "$ledger" "$ledger.check" 2>/dev/null)" ""
 
 unwritable "$minimal"
 unwritable "$acceptance" 1000 3
@@ -50,6 +59,8 @@ done
 for call in open work post sheet_write sheet_read sheet_post close; do
     refusing examples/acceptance.c bbp_$call 1000 5
     same "what acceptance says of $call" "$said" "${call/_/ }: refused 7: ticket marked already"
+    ends 1 "$scratch/refusing" --check 1000 5
+    same "what acceptance --check says of $call" "$said" "${call/_/ }: refused 7: ticket marked already"
 done
 
 for half in lower upper; do
@@ -57,18 +68,44 @@ for half in lower upper; do
     same "what acceptance says of the $half half" "$said" "work $half: refused 7: ticket marked already"
 done
 
+# The check run is opened before the work and worked after the other run. Without --check it is neither.
+for call in open work post sheet_write sheet_read sheet_post close work_lower work_upper; do
+    wrapped refusing examples/acceptance.c "$(instead bbp_check_$call -7)"
+    before=$line option=
+    case $call in open) before= ;; work_*) option=--halves ;; esac
+    prints 1 "$before" "$scratch/refusing" --check $option 1000 5
+    same "what acceptance --check says of check $call" "$said" "check ${call/_/ }: refused 7: ticket marked already"
+    prints 0 "$line" "$scratch/refusing" $option 1000 5
+done
+
+# A sheet that holds another ticket than the one ordered, or none.
+for calls in bbp_ bbp_check_; do
+    before=
+    if [ $calls = bbp_check_ ]; then before=$line; fi
+    engine=$(call ${calls}sheet_read)
+    for answer in "$engine - 1" "(list_len = (size_t)$engine, list[0] ^= 1, (int64_t)list_len)"; do
+        wrapped other examples/acceptance.c "$(instead ${calls}sheet_read "$answer")"
+        prints 1 "$before" "$scratch/other" --check 1000 5
+        same "what is said of another ticket" "$said" "${before:+check }sheet read: not the tickets that were ordered"
+    done
+done
+
 # What docs/FORMATS.md shows is what the library gives.
 ${CC:-gcc} -std=c99 -Wall -Wextra -Werror -Iinclude examples/formats.c "$ENGINE" ${LDFLAGS:-} -o "$scratch/formats" || exit 1
 same "the bytes in docs/FORMATS.md" "$(sed -n '/^```text/,/^```$/p' docs/FORMATS.md | grep -v '^```')" "$("$scratch/formats")"
 unwritable "$scratch/formats"
 
+# The word for a ticket in tests/vectors.txt and the rows, of Bellard's runs; check_rows COMMAND.. - the same of check runs.
+ticket=ticket rows='0 1 2 3 4 5 6'
+check_rows() { ticket=check-ticket rows='0 1 2 3' "$@"; }
+
 # sum_of P ROW - the sum of all terms of a row, as tests/vectors.txt has it for the row's one ticket where C is 1.
-sum_of() { sed -n "s/^ticket $1 1 $2 0 \([0-9a-f]*\) .*/\1/p" tests/vectors.txt; }
+sum_of() { sed -n "s/^$ticket $1 1 $2 0 \([0-9a-f]*\) .*/\1/p" tests/vectors.txt; }
 
 # lines P [ROW SUM] - what --rows prints of a full ledger that has another sum in one row.
 lines() {
     local row sum
-    for row in 0 1 2 3 4 5 6; do
+    for row in $rows; do
         sum=$(sum_of "$1" "$row")
         if [ "$row" = "${2-}" ]; then
             echo "row $row ledger $3 worked $sum differs"
@@ -78,12 +115,17 @@ lines() {
     done
 }
 
-# Where lines of zeros are left out, the ledger kept is the one that docs/FORMATS.md shows.
+# shown WORD FILE SIZE - where lines of zeros are left out, the ledger is the full one that docs/FORMATS.md shows.
+shown() {
+    same "the ${1}ledger kept" "$(od -An -v -tx1 -w16 "$2" | grep -v '^\( 00\)*$')" \
+        "$(sed -n "/^${1}ledger with every/,/^${1}total/p" docs/FORMATS.md | sed -n 's/^ *[0-9]* \( .*\)/\1/p')"
+    same "its size" "$(wc -c <"$2")" "$3"
+}
+
 keeping() {
     prints 0 "1 30 243F6A8885A308D313198A2E037073" "$acceptance" --keep "$ledger" 1 14
-    same "the ledger kept" "$(od -An -v -tx1 -w16 "$ledger" | grep -v '^\( 00\)*$')" \
-        "$(sed -n '/^ledger with every/,/^total/p' docs/FORMATS.md | sed -n 's/^ *[0-9]* \( .*\)/\1/p')"
-    same "its size" "$(wc -c <"$ledger")" 352
+    shown '' "$ledger" 352
+    same "what is kept of a check run where there is none" "$(ls "$ledger".* 2>/dev/null)" ""
     cp "$ledger" "$scratch/before"
     ends 1 "$acceptance" --keep "$ledger" 0
     same "the ledger kept before, after a run refused" "$(cmp "$ledger" "$scratch/before")" ""
@@ -111,37 +153,39 @@ full_ledgers() {
 # spoiled ROW SUM DIGITS LINE - a run at 1,000 built with that line, which spoils a sum of the row as it is posted: the
 # closing, the row's sum in the ledger kept, and that this row alone differs.
 spoiled() {
-    local row=$1 sum=$2 digits=$3
+    local row=$1 sum=$2
     wrapped spoiled examples/acceptance.c "$4"
-    prints 0 "1000 29 $digits" "$scratch/spoiled" --keep "$ledger" 1000 5
+    prints 0 "1000 29 $3" "$scratch/spoiled" --keep "$ledger" 1000 5
     prints 3 "$(lines 1000 "$row" "$sum")" "$acceptance" --rows "$ledger"
     prints 3 "row $row ledger $sum worked $(sum_of 1000 "$row") differs" "$acceptance" --rows "$ledger" "$row"
     prints 0 "$(lines 1000 | sed "$((row + 1))d")" "$acceptance" --rows "$ledger" $(seq 0 6 | grep -v "$row")
     unwritable "$acceptance" --rows "$ledger"
 }
 
+# changed CALL SLICE CHANGE - C after which a change of a slice's bytes comes before the call.
+changed() { instead "$1" "(((uint8_t *)$2)$3, $(call "$1"))"; }
+
 # Block 1 is posted singly and block 3 on a sheet of its own, whose row stands at byte 16 and whose sum at 20. One more
 # in a sum does not show in the digits; the highest bit does.
 spoiled_ledgers() {
-    local right=349F1C09B075372C980991B7B25D4 row sum more
-    local post='bbp_post(l, n, p, c, row, block, sum, m)' sheet_post='bbp_sheet_post(l, n, sheet, m)'
+    local right=${line##* } row sum more
     for row in 0 3 6; do
         sum=$(sum_of 1000 "$row")
         more=${sum%?}$(printf %x $((0x${sum: -1} + 1)))
-        spoiled "$row" "$more" "$right" "#define $post (sum[0] += (row) == $row && (block) == 1, $post)"
-        spoiled "$row" "$more" "$right" "#define $sheet_post (sheet[20] += sheet[16] == $row, $sheet_post)"
+        spoiled "$row" "$more" "$right" "$(changed bbp_post sum "[0] += row == $row && block == 1")"
+        spoiled "$row" "$more" "$right" "$(changed bbp_sheet_post sheet "[20] += sheet[16] == $row")"
     done
     sum=$(sum_of 1000 4)
     spoiled 4 "$(printf %x $((0x${sum:0:1} ^ 8)))${sum:1}" "B${right#3}" \
-        "#define $post (sum[15] ^= 128 * ((row) == 4 && (block) == 1), $post)"
+        "$(changed bbp_post sum "[15] ^= 128 * (row == 4 && block == 1)")"
 }
 
 # A ledger is kept also where its closing is refused, and only marked tickets are worked.
 unfinished_ledgers() {
-    local none=00000000000000000000000000000000 one post='bbp_post(l, n, p, c, row, block, sum, m)'
+    local none=00000000000000000000000000000000 one
     one=$(sed -n 's/^ticket 1 256 2 36 \([0-9a-f]*\) .*/\1/p' tests/vectors.txt)
-    wrapped unfinished examples/acceptance.c '#define bbp_sheet_post(...) INT64_C(0)' \
-        "#define $post ((row) == 2 && (block) == 36 ? $post : 0)"
+    wrapped unfinished examples/acceptance.c "$(instead bbp_sheet_post 0)" \
+        "$(instead bbp_post "row == 2 && block == 36 ? $(call bbp_post) : 0")"
     ends 1 "$scratch/unfinished" --keep "$ledger" 1
     same "what an unfinished run says" "$said" "close: refused 8: a ticket of the run is not marked"
     prints 0 "$(for row in 0 1 2 3 4 5 6; do echo "row $row ledger $none worked $none"; done | sed "3s/$none/$one/g")" \
@@ -168,27 +212,29 @@ failing() {
 
 # The closing line and the ledger are those of whole tickets.
 halves() {
-    local run line failed="the process of an upper half failed" kept=$scratch/kept
+    local run closing failed="the process of an upper half failed" kept=$scratch/kept none_left
     for run in 1 '1 1' '1 14' '2 256' '1000 1' '1000 3' '1000 256' '12345 7'; do
-        line=$("$acceptance" --keep "$kept" $run)
-        prints 0 "$line" "$acceptance" --halves $run
+        closing=$("$acceptance" --keep "$kept" $run)
+        prints 0 "$closing" "$acceptance" --halves $run
         same "what --halves says" "$said" ""
-        prints 0 "$line" "$acceptance" --halves --keep "$ledger" $run
+        prints 0 "$closing" "$acceptance" --halves --keep "$ledger" $run
         same "the ledger by halves" "$(cmp "$ledger" "$kept" 2>&1)" ""
         rm "$ledger"
-        prints 0 "$line" "$acceptance" --keep "$ledger" --halves $run
+        prints 0 "$closing" "$acceptance" --keep "$ledger" --halves $run
         same "the ledger by halves, the options the other way round" "$(cmp "$ledger" "$kept" 2>&1)" ""
     done
-    # No ticket is worked whole but the supplier's, and no child is left at the end.
-    line="1000 29 349F1C09B075372C980991B7B25D4"
-    wrapped halves examples/acceptance.c '#include <sys/wait.h>' '#define bbp_work(...) INT64_C(-7)' \
-        '#define bbp_close(...) (waitpid(-1, NULL, WNOHANG) == -1 ? bbp_close(__VA_ARGS__) : INT64_C(-9))'
+    # No ticket is worked whole but the supplier's, and no child is left at the end; of a check run, too.
+    none_left='waitpid(-1, NULL, WNOHANG) == -1'
+    wrapped halves examples/acceptance.c '#include <sys/wait.h>' "$(instead bbp_work -7)" "$(instead bbp_check_work -7)" \
+        "$(instead bbp_close "$none_left ? $(call bbp_close) : -9")" \
+        "$(instead bbp_check_close "$none_left ? $(call bbp_check_close) : -9")"
     prints 0 "$line" "$scratch/halves" --halves 1000 5
-    wrapped whole examples/acceptance.c '#define bbp_work_lower(...) INT64_C(-7)' '#define bbp_work_upper(...) INT64_C(-7)'
+    prints 0 "$both" "$scratch/halves" --halves --check 1000 5
+    wrapped whole examples/acceptance.c "$(instead bbp_work_lower -7)" "$(instead bbp_work_upper -7)"
     prints 0 "$line" "$scratch/whole" 1000 5
     # The child is killed, ends without a word, writes short, or fails after it wrote.
-    failing "$failed" '#define bbp_work_upper(...) (raise(SIGKILL), INT64_C(0))'
-    failing "$failed" '#define bbp_work_upper(...) (_exit(0), INT64_C(0))'
+    failing "$failed" "$(instead bbp_work_upper 'raise(SIGKILL)')"
+    failing "$failed" "$(instead bbp_work_upper '(_exit(0), 0)')"
     failing "$failed" '#define write(file, bytes, len) write(file, bytes, (len) - 1)'
     failing "$failed" '#define write(file, bytes, len) (write(file, bytes, (len) - 1), (ssize_t)(len))'
     failing "$failed" '#define write(file, bytes, len) (write(file, bytes, len), (ssize_t)-1)'
@@ -197,6 +243,124 @@ halves() {
     failing "fork: Resource temporarily unavailable" '#define fork() (errno = EAGAIN, (pid_t)-1)'
     stopped TERM 143 1 "$acceptance" --halves 1152921504606846976 1
     stopped KILL 137 1 "$acceptance" --halves 1152921504606846976 1
+}
+
+# The run without --check stays as it is, line and ledger; the check run's ledger is the one that docs/FORMATS.md shows.
+checked() {
+    local run options digits_1=243F6A8885A308D313198A2E03707 both_1 keep="--keep $ledger" kept=$scratch/kept
+    both_1="1 30 ${digits_1}3"$'\n'"check 1 29 $digits_1"$'\nagree 29 digits'
+    for run in 1 '1 1' '1 33' '1 256'; do prints 0 "$both_1" "$acceptance" --check $run; done
+    for run in 1000 '1000 1' '1000 5' '1000 256'; do prints 0 "$both" "$acceptance" --check $run; done
+    "$acceptance" --keep "$kept" 1 33 >/dev/null
+    for options in "--check $keep" "$keep --check" "--check --halves $keep" "--check $keep --halves" "--halves --check $keep" \
+        "--halves $keep --check" "$keep --check --halves" "$keep --halves --check"; do
+        rm -f "$ledger" "$ledger.check"
+        prints 0 "$both_1" "$acceptance" $options 1 33
+        same "what $options says" "$said" ""
+        same "the ledger kept beside a check run" "$(cmp "$ledger" "$kept" 2>&1)" ""
+        shown 'check ' "$ledger.check" 208
+    done
+    # Digits that only one of them settles are not compared.
+    wrapped shorter examples/acceptance.c "$(instead bbp_close "$(call bbp_close) - 5")"
+    prints 0 "1000 24 ${digits%????}"$'\n'"$check_line"$'\nagree 24 digits' "$scratch/shorter" --check 1000 5
+    wrapped shorter examples/acceptance.c "$(instead bbp_check_close "$(call bbp_check_close) > 0")"
+    prints 0 "$line"$'\ncheck 1000 1 3\nagree 1 digits' "$scratch/shorter" --check 1000 5
+}
+
+# Both runs are opened, and both files, before the work, which would not end.
+before_the_work() {
+    local p last=576460752303423488
+    for p in 576460752303423489 1152921504606846976; do
+        ends 1 timeout 60 "$acceptance" --check --keep "$scratch/new" $p
+        same "what acceptance --check $p says" "$said" "check open: $out_of_range"
+        ends 124 timeout 1 "$acceptance" $p
+    done
+    same "ledgers kept from a position that is refused" "$(ls "$scratch"/new* 2>/dev/null)" ""
+    ends 124 timeout 1 "$acceptance" --check $last
+    ends 1 timeout 60 "$acceptance" --check --keep "$scratch/none/ledger" $last
+    same "what is said of a file that cannot be written" "${said%%:*}" "$scratch/none/ledger"
+    mkdir "$scratch/folder.check"
+    ends 1 timeout 60 "$acceptance" --check --keep "$scratch/folder" $last
+    same "what is said of a check ledger's file that cannot be written" "$said" "$scratch/folder.check: Is a directory"
+    ln -s /dev/full "$scratch/full_device.check"
+    prints 1 "$line" "$acceptance" --check --keep "$scratch/full_device" 1000 5
+    same "what is said of its full device" "$said" "$scratch/full_device.check: No space left on device"
+}
+
+# unsettled CALL SAID OUTPUT SIZE - a closing that is refused with 9; the size of the check ledger kept. The other is kept.
+unsettled() {
+    rm -f "$ledger" "$ledger.check"
+    wrapped unsettled examples/acceptance.c "$(instead "$1" -9)"
+    prints 1 "$3" "$scratch/unsettled" --check --keep "$ledger" 1000 5
+    same "what is said of $1" "$said" "$2: refused 9: the total does not settle the first digit"
+    same "the sizes of the ledgers kept" "$(cat "$ledger" | wc -c) $(cat "$ledger.check" | wc -c)" "352 $4"
+}
+
+# A line that cannot be written ends the program, also the second and the third.
+unwritable_lines() {
+    local wanted
+    for wanted in 1 2 3; do
+        wrapped unwritable examples/acceptance.c '#include <stdio.h>' 'static int lines;' \
+            "#define fflush(file) (++lines == $wanted ? fflush(file), EOF : fflush(file))"
+        "$scratch/unwritable" --check 1000 5 >"$scratch/out" 2>/dev/null
+        same "the status where line $wanted cannot be written" $? 1
+        same "the lines written" "$(wc -l <"$scratch/out")" $wanted
+    done
+    unwritable "$acceptance" --check 1000 3
+}
+
+# Each call that works notes its kind; one that reads or posts is refused where the last that worked was of the other.
+apart() {
+    local kind calls call lines=('static int worked;')
+    for kind in 0 1; do
+        calls=(bbp_ bbp_check_)
+        for call in work work_lower sheet_write; do
+            call=${calls[kind]}$call
+            lines+=("$(instead "$call" "(worked = $kind, $(call "$call"))")")
+        done
+        for call in post sheet_read sheet_post; do
+            call=${calls[kind]}$call
+            lines+=("$(instead "$call" "worked == $kind ? $(call "$call") : -3")")
+        done
+    done
+    wrapped apart examples/acceptance.c "${lines[@]}"
+    prints 0 "$both" "$scratch/apart" --check 1000 5
+    prints 0 "$both" "$scratch/apart" --check --halves 1000 5
+}
+
+# differing KIND ROW STATUS OUTPUT CODE - a run at 1,000 built with that code, which spoils a sum of the row in a ledger of
+# that kind as it is posted: what is printed, and that this row of this ledger alone differs.
+differing() {
+    local row=$2 right=$ledger wrong=$ledger.check rows_right=lines rows_wrong='check_rows lines'
+    if [ "$1" = bellard ]; then
+        right=$ledger.check wrong=$ledger rows_right='check_rows lines' rows_wrong=lines
+    fi
+    wrapped differing examples/acceptance.c "$5"
+    prints "$3" "$4" "$scratch/differing" --check --keep "$ledger" 1000 5
+    prints 0 "$($rows_right 1000)" "$acceptance" --rows "$right"
+    prints 3 "$($rows_wrong 1000 "$row" "$(sum_in "$wrong" "$row")")" "$acceptance" --rows "$wrong"
+}
+
+# sum_in LEDGER ROW - in hexadecimal, the highest digit first.
+sum_in() { od -An -v -tx1 -w1 -j $((16 + 16 * $2)) -N 16 "$1" | tac | tr -d ' \n'; }
+
+# Blocks 1 and 3 as in spoiled_ledgers. Byte 15 of a sum has digits 1 and 2, byte 13 digits 5 and 6, byte 2 digits 27 and 28.
+differing_runs() {
+    local one='row == 1 && block == 1'
+    differing check 1 4 "$line"$'\n'"check 1000 28 B${digits#3}"$'\ndiffer at digit 1' \
+        "$(changed bbp_check_post sum "[15] ^= 128 * ($one)")"
+    differing check 2 4 "$line"$'\n'"check 1000 28 B${digits#3}"$'\ndiffer at digit 1' \
+        "$(changed bbp_check_sheet_post sheet "[35] ^= 128 * (sheet[16] == 2)")"
+    differing check 1 4 "$line"$'\n'"check 1000 28 ${digits/1C/1D}"$'\ndiffer at digit 6' \
+        "$(changed bbp_check_post sum "[13] += $one")"
+    differing check 3 4 "$line"$'\n'"check 1000 28 ${digits%D}E"$'\ndiffer at digit 28' \
+        "$(changed bbp_check_sheet_post sheet "[22] += sheet[16] == 3")"
+    differing check 0 0 "$both" "$(changed bbp_check_post sum "[0] += row == 0 && block == 1")"
+    differing bellard 1 4 "1000 29 B${digits#3}4"$'\n'"$check_line"$'\ndiffer at digit 1' \
+        "$(changed bbp_post sum "[15] ^= 128 * ($one)")"
+    # The digit after those that both have.
+    differing bellard 1 0 "1000 29 ${digits}5"$'\n'"$check_line"$'\nagree 28 digits' \
+        "$(changed bbp_post sum "[1] += 16 * ($one)")"
 }
 
 # The ledger of version 1.0.0 with every ticket of p = 1, C = 1 posted and total 50.
@@ -237,6 +401,61 @@ refused_ledgers() {
     same "what is said of a file that cannot be read" "$said" "$scratch: Is a directory"
 }
 
+# The rows of a check ledger, which is known by its size.
+check_ledgers() {
+    local check=$ledger.check none=00000000000000000000000000000000 run row
+    for run in '1 1' '1 33' '1 256' '1000 1' '1000 5'; do
+        "$acceptance" --check --keep "$ledger" $run >/dev/null
+        prints 0 "$(check_rows lines ${run% *})" "$acceptance" --rows "$check"
+    done
+    same "--rows of standard input" "$("$acceptance" --rows - <"$check")" "$(check_rows lines 1000)"
+    prints 0 "$(check_rows lines 1000 | sed -n '1p; 4p')" "$acceptance" --rows "$check" 3 0
+    for row in 4 6 7; do
+        ends 2 "$acceptance" --rows "$check" "$row"
+        same "what is said of row $row" "$said" "row above 3: $row"
+    done
+    ends 2 "$acceptance" --rows "$check" 3 0 3
+    same "what is said of row 3 twice" "$said" "row named twice: 3"
+    unwritable "$acceptance" --rows "$check"
+    # All marked, every sum 0.
+    dd if=/dev/zero of="$check" bs=16 seek=1 count=4 conv=notrunc status=none
+    prints 3 "$(check_rows lines 1000 | sed "s/ledger [0-9a-f]*/ledger $none/; s/\$/ differs/")" "$acceptance" --rows "$check"
+    # Position 2^59, C = 1, row 3 marked: that ticket would not end.
+    { printf '\0\0\0\0\0\0\0\10\1'; head -c 167 /dev/zero; printf '\1'; head -c 31 /dev/zero; } >"$check"
+    prints 0 "row 2 ledger $none worked $none" timeout 60 "$acceptance" --rows "$check" 2
+    ends 124 timeout 1 "$acceptance" --rows "$check" 3
+    # One position more.
+    printf '\1' | dd of="$check" bs=1 conv=notrunc status=none
+    ends 1 "$acceptance" --rows "$check" 2
+    same "what is said of position 2^59 + 1" "$said" "$check: refused 5: ledger not in order"
+}
+
+refused_check_ledgers() {
+    local full=$scratch/full check=$scratch/check size byte call
+    "$acceptance" --check --keep "$full" 1 1 >/dev/null
+    for size in 207 209; do
+        { cat "$full.check"; printf '\0'; } | head -c $size >"$check"
+        ends 1 "$acceptance" --rows "$check"
+        same "what is said of $size bytes" "$said" "$check: refused 1: $wrong_size"
+    done
+    # The position, the block count, zero bytes, marks of block 8 in the first and in the last row.
+    for byte in 0 8 10 15 81 177; do
+        cp "$full.check" "$check"
+        flip "$check" $byte
+        ends 1 "$acceptance" --rows "$check"
+        same "what is said of byte $byte" "$said" "$check: refused 5: ledger not in order"
+    done
+    head -c 208 "$full" >"$check"
+    ends 1 "$acceptance" --rows "$check"
+    same "what is said of 208 bytes of the other kind" "$said" "$check: refused 5: ledger not in order"
+    for call in open work post; do
+        refusing examples/acceptance.c bbp_check_$call --rows "$full.check"
+        same "what --rows says of check $call" "$said" "check $call: refused 7: ticket marked already"
+    done
+    refusing examples/acceptance.c bbp_check_close --rows "$full.check"
+    same "what --rows says of check close" "$said" "$full.check: refused 7: ticket marked already"
+}
+
 # 2^64 + 3 would be 3 in 64 bits.
 bad_rows() {
     local full=$scratch/full word call
@@ -249,7 +468,6 @@ bad_rows() {
         ends 2 "$acceptance" --rows "$full" 6 "$word"
         same "what is said of row $word" "$said" "row above 6: $word"
     done
-    ends 2 "$acceptance" --rows "$scratch/none" 7
     ends 2 "$acceptance" --rows "$full" 3 0 3
     same "what is said of row 3 twice" "$said" "row named twice: 3"
     for call in open work post; do
@@ -262,9 +480,18 @@ bad_rows() {
 
 halves
 keeping
+checked
+before_the_work
+unsettled bbp_close close "" 0
+unsettled bbp_check_close "check close" "$line" 208
+unwritable_lines
+apart
 full_ledgers
 spoiled_ledgers
+differing_runs
+check_ledgers
 unfinished_ledgers
 refused_ledgers
+refused_check_ledgers
 bad_rows
 echo "examples: $checks checks"

@@ -1,6 +1,7 @@
 #!/usr/bin/env bash
 # farm.sh FARM DIRECTORY - a run by processes: worked, stopped, taken up again with damaged files; the ledger kept;
-# arguments that are no numbers, output that cannot be written, refusals. ENGINE is the library that it is built with.
+# a check run in the same directory; arguments that are no numbers, output that cannot be written, refusals. ENGINE is
+# the library that it is built with.
 set -u
 farm=$1
 directory=$2
@@ -37,12 +38,18 @@ damages() {
     damaged "a sheet lost" "$ticket" rm "$sheet"
 }
 
-# The bytes of the run's full ledger, in hexadecimal; a row's sum is that of its one ticket where C is 1.
+# full_ledger WORD ROW.. - the bytes of the run's full ledger, in hexadecimal; a row's sum is that of its one ticket where C
+# is 1, in a line of tests/vectors.txt with that word.
 full_ledger() {
+    local word=$1
+    shift
     printf '%s' e803000000000000 0500 000000000000
-    sed -n 's/^ticket 1000 1 [0-6] 0 [0-9a-f]* //p' tests/vectors.txt | tr -d '\n'
-    for _ in 0 1 2 3 4 5 6; do printf '1f%062d' 0; done
+    sed -n "s/^$word 1000 1 [0-9] 0 [0-9a-f]* //p" tests/vectors.txt | tr -d '\n'
+    for _ in "$@"; do printf '1f%062d' 0; done
 }
+
+# ledger_in FILE - its bytes, in hexadecimal.
+ledger_in() { od -An -v -tx1 "$directory/$1" | tr -d ' \n'; }
 
 # Another ticket's sheet with its own checksum, both whole.
 misplace() {
@@ -50,10 +57,29 @@ misplace() {
     cp "$directory/1000-5-1-1.sheet.fnv" "$directory/1000-5-1-2.sheet.fnv"
 }
 
+# A check run beside the other: each takes its own sheets alone, though one of the other kind would be read.
+check_run() {
+    local check_line="check 1000 28 349F1C09B075372C980991B7B25D" before
+    before=$(cksum "$directory"/*)
+    same "a check run" "$("$farm" --check 1000 5 "$directory" 2)" "$check_line"
+    same "files kept of both" "$(find "$directory" -type f | wc -l) $(find "$directory" -name '*.check.*' | wc -l)" "112 41"
+    same "the check ledger kept" "$(ledger_in 1000-5.check.ledger)" "$(full_ledger check-ticket 0 1 2 3)"
+    touch "$scratch/both"
+    sleep 0.05
+    same "a check run again" "$("$farm" --check 1000 5 "$directory")" "$check_line"
+    same "the run again" "$("$farm" 1000 5 "$directory")" "$line"
+    same "what is worked again" "$(find "$directory" -name '*.sheet' -newer "$scratch/both")" ""
+    rm "$directory"/*.check.*
+    same "the files of the run after the check run" "$(cksum "$directory"/*)" "$before"
+    ends 1 "$farm" --check 576460752303423489 5 "$directory"
+    same "what is said of position 2^59 + 1" "$said" "check open: refused 2: position or block count out of range"
+}
+
 rm -rf "$directory"
 same "a run" "$("$farm" 1000 5 "$directory" 2)" "$line"
 same "files kept" "$(find "$directory" -type f | wc -l)" 71
-same "the ledger kept" "$(od -An -v -tx1 "$directory/1000-5.ledger" | tr -d ' \n')" "$(full_ledger)"
+same "the ledger kept" "$(ledger_in 1000-5.ledger)" "$(full_ledger ticket 0 1 2 3 4 5 6)"
+check_run
 damages
 damaged "a sheet in another's place" 1000-5-1-2 misplace
 unwritable "$farm" 1000 5 "$directory"
@@ -74,7 +100,11 @@ for word in '' 5x x ' 5' +5 -5 18446744073709551621; do
     ends 2 "$farm" 5 5 "$directory" "$word"
 done
 ends 2 "$farm" 5 5 "$directory" 0
+ends 2 "$farm" --check 5 5
+ends 2 "$farm" --check --check 5 5 "$directory"
 for call in open sheet_write sheet_read sheet_post close; do
+    rm -rf "$directory"
+    refusing tools/farm.c bbp_check_$call --check 5 1 "$directory"
     rm -rf "$directory"
     refusing tools/farm.c bbp_$call 5 1 "$directory"
 done

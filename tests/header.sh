@@ -5,9 +5,13 @@ checks=0
 cat >"$1/header.c" <<'END'
 #include "bbp.h"
 #include "bbp.h"
-char sheet[BBP_SHEET_SIZE(1792) == BBP_SHEET_MAX ? 1 : -1];
-char sums[BBP_ROW_SUM_AT(BBP_ROWS) == BBP_ROW_MARKS_AT(0) ? 1 : -1];
-char marks[BBP_ROW_MARKS_AT(BBP_ROWS) == BBP_LEDGER_SIZE ? 1 : -1];
+#define FITS(name, prefix) \
+    char name##_list[BBP_LIST_SIZE(BBP_MAX_BLOCKS * prefix##ROWS) == prefix##LIST_MAX ? 1 : -1]; \
+    char name##_sheet[BBP_SHEET_SIZE(BBP_MAX_BLOCKS * prefix##ROWS) == prefix##SHEET_MAX ? 1 : -1]; \
+    char name##_sums[BBP_ROW_SUM_AT(prefix##ROWS) == prefix##ROW_MARKS_AT(0) ? 1 : -1]; \
+    char name##_marks[prefix##ROW_MARKS_AT(prefix##ROWS) == prefix##LEDGER_SIZE ? 1 : -1];
+FITS(bellard, BBP_)
+FITS(check, BBP_CHECK_)
 END
 cp "$1/header.c" "$1/header.cc"
 strict="-Wall -Wextra -Werror -pedantic -Iinclude -c -o /dev/null"

@@ -1,9 +1,9 @@
 /*
- * The digits of document 001, Table 4, against closings.
+ * The digits of document 001, Table 4, against closings of both kinds of runs.
  *
- *   published POSITION...       works and closes each, and compares
- *   published overlap POSITION  closes there and one position before; where both have a digit they agree
- *   published -                 reads closing lines ("P D DIGITS") and compares each
+ *   published POSITION...       works and closes each, by both formulas, and compares
+ *   published overlap POSITION  closes there and one position before; where both have a digit they agree, by both formulas
+ *   published -                 reads closing lines ("P D DIGITS" or "check P D DIGITS") and compares each
  *
  * The table's letter O is read as 0 (document 01, Marked figures). A closing
  * may settle fewer digits than the table has, and more: those that both have
@@ -15,6 +15,8 @@
 #include <stdio.h>
 #include <stdlib.h>
 #include <string.h>
+
+#include "kinds.h"
 
 static const struct {
     uint64_t p;
@@ -31,9 +33,9 @@ static const struct {
 
 static unsigned checks;
 
-static void failed(const char *what, uint64_t p, const char *found, const char *wanted)
+static void failed(const char *word, const char *what, uint64_t p, const char *found, const char *wanted)
 {
-    fprintf(stderr, "published: %s at %" PRIu64 ": %s, not %s\n", what, p, found, wanted);
+    fprintf(stderr, "published: %s%s at %" PRIu64 ": %s, not %s\n", word, what, p, found, wanted);
     exit(1);
 }
 
@@ -47,19 +49,19 @@ static const char *published_digits(uint64_t p)
 }
 
 /* The closing of a run in this process; gives the number of digits. */
-static size_t close_run(uint64_t p, char digits[33])
+static size_t close_run(const struct kind *kind, uint64_t p, char digits[33])
 {
     uint8_t ledger[BBP_LEDGER_SIZE], sum[BBP_SUM_SIZE], lent[BBP_DIGITS_SIZE] = {0};
-    int64_t answer = bbp_open(p, 1, ledger, sizeof ledger);
-    for (uint64_t row = 0; row < BBP_ROWS && answer == 0; row++) {
-        answer = bbp_work(p, 1, row, 0, sum, sizeof sum);
+    int64_t answer = kind->open(p, 1, ledger, kind->ledger_size);
+    for (uint64_t row = 0; row < kind->rows && answer == 0; row++) {
+        answer = kind->work(p, 1, row, 0, sum, sizeof sum);
         if (answer == 0)
-            answer = bbp_post(ledger, sizeof ledger, p, 1, row, 0, sum, sizeof sum);
+            answer = kind->post(ledger, kind->ledger_size, p, 1, row, 0, sum, sizeof sum);
     }
     if (answer == 0)
-        answer = bbp_close(ledger, sizeof ledger, lent, sizeof lent);
+        answer = kind->close(ledger, kind->ledger_size, lent, sizeof lent);
     if (answer < 1) {
-        fprintf(stderr, "published: position %" PRIu64 " is refused with %" PRId64 "\n", p, -answer);
+        fprintf(stderr, "published: %sposition %" PRIu64 " is refused with %" PRId64 "\n", kind->word, p, -answer);
         exit(1);
     }
     memset(digits, 0, 33);
@@ -68,26 +70,39 @@ static size_t close_run(uint64_t p, char digits[33])
 }
 
 /* A closing that settles next to nothing would agree with anything: 20 digits are asked for. */
-static void compare(uint64_t p, const char *digits)
+static void compare(const char *word, uint64_t p, const char *digits)
 {
     const char *wanted = published_digits(p);
     size_t i = 0;
     for (; digits[i] != '\0' && wanted[i] != '\0'; i++)
         if (digits[i] != (wanted[i] == 'O' ? '0' : wanted[i]))
-            failed("digits", p, digits, wanted);
+            failed(word, "digits", p, digits, wanted);
     if (i < 20)
-        failed("too few digits", p, digits, wanted);
+        failed(word, "too few digits", p, digits, wanted);
     checks++;
 }
 
-static void compare_overlap(uint64_t p)
+static void compare_run(const struct kind *kind, uint64_t p)
+{
+    char digits[33];
+    close_run(kind, p, digits);
+    compare(kind->word, p, digits);
+}
+
+static void compare_overlap(const struct kind *kind, uint64_t p)
 {
     char here[33], before[33];
-    size_t d = close_run(p, here), e = close_run(p - 1, before);
+    size_t d = close_run(kind, p, here), e = close_run(kind, p - 1, before);
     size_t shared = d < e - 1 ? d : e - 1;
     if (shared < 20 || memcmp(here, before + 1, shared) != 0)
-        failed("overlap", p, here, before);
+        failed(kind->word, "overlap", p, here, before);
     checks++;
+}
+
+/* The next closing line, with or without a word before it; gives whether there is one. */
+static int read_line(uint64_t *p, unsigned *d, char digits[33])
+{
+    return scanf(" check") != EOF && scanf("%" SCNu64 " %u %32s", p, d, digits) == 3;
 }
 
 static void compare_lines(void)
@@ -95,28 +110,24 @@ static void compare_lines(void)
     uint64_t p;
     unsigned d;
     char digits[33];
-    while (scanf("%" SCNu64 " %u %32s", &p, &d, digits) == 3) {
+    while (read_line(&p, &d, digits)) {
         if (strlen(digits) != d)
-            failed("the count of digits", p, digits, published_digits(p));
-        compare(p, digits);
+            failed("", "the count of digits", p, digits, published_digits(p));
+        compare("", p, digits);
     }
     if (checks == 0)
-        failed("closing line", 0, "none", "one");
+        failed("", "closing line", 0, "none", "one");
 }
 
 int main(int argc, char **argv)
 {
-    char digits[33];
+    int overlap = argc == 3 && strcmp(argv[1], "overlap") == 0;
     if (argc == 2 && strcmp(argv[1], "-") == 0)
         compare_lines();
-    else if (argc == 3 && strcmp(argv[1], "overlap") == 0)
-        compare_overlap(strtoull(argv[2], NULL, 10));
     else
-        for (int i = 1; i < argc; i++) {
-            uint64_t p = strtoull(argv[i], NULL, 10);
-            close_run(p, digits);
-            compare(p, digits);
-        }
+        for (int i = 1 + overlap; i < argc; i++)
+            for (int kind = 0; kind < KINDS; kind++)
+                (overlap ? compare_overlap : compare_run)(&kinds[kind], strtoull(argv[i], NULL, 10));
     printf("published: %u checks\n", checks);
     return checks > 0 ? 0 : 2;
 }

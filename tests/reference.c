@@ -4,10 +4,15 @@
 
 enum { SIZE = 1 << 1, RANGE = 1 << 2, FORM = 1 << 3, TICKET = 1 << 4, LEDGER = 1 << 5, RUN = 1 << 6, MARKED = 1 << 7 };
 
-/* Document 01, The rows. */
-static const struct { int m, j, l, added; } rows[7] = {
+/* Document 01, The rows; document 02, slip 1. */
+ref_formula ref_bellard = {(uint64_t)1 << 60, 7, 10, 1, 352, 3584, 35856, {
     {4, 1, -1, 0}, {4, 3, -6, 0}, {10, 1, 2, 1}, {10, 3, 0, 0}, {10, 5, -4, 0}, {10, 7, -4, 0}, {10, 9, -6, 1},
-};
+}};
+
+/* Document 02, slip 4. */
+ref_formula ref_check = {(uint64_t)1 << 59, 4, 4, 0, 208, 2048, 20496, {
+    {8, 1, 2, 1}, {2, 1, -1, 0}, {8, 5, 0, 0}, {4, 3, -1, 0},
+}};
 
 /* Numbers in bytes. */
 
@@ -46,47 +51,47 @@ int64_t ref_answer(ref_refusals refusals)
     return 0;
 }
 
-static int run_in_range(uint64_t p, uint64_t c)
+static int run_in_range(ref_formula *f, uint64_t p, uint64_t c)
 {
-    return p >= 1 && p <= (uint64_t)1 << 60 && c >= 1 && c <= 256;
+    return p >= 1 && p <= f->last_position && c >= 1 && c <= 256;
 }
 
-static int ticket_in_range(uint64_t c, uint64_t row, uint64_t block)
+static int ticket_in_range(ref_formula *f, uint64_t c, uint64_t row, uint64_t block)
 {
-    return row <= 6 && block < c;
+    return row < f->rows && block < c;
 }
 
 /* Terms and tickets. */
 
-uint64_t ref_term_count(uint64_t p)
+uint64_t ref_term_count(ref_formula *f, uint64_t p)
 {
-    return (4 * (p - 1) + 130) / 10 + 1;
+    return (4 * (p - 1) + 130) / f->step + 1;
 }
 
-uint64_t ref_block_first(uint64_t p, uint64_t c, uint64_t block)
+uint64_t ref_block_first(ref_formula *f, uint64_t p, uint64_t c, uint64_t block)
 {
-    return (uint64_t)((ref_u128)block * ref_term_count(p) / c);
+    return (uint64_t)((ref_u128)block * ref_term_count(f, p) / c);
 }
 
 /* Document 02, slip 3. */
-uint64_t ref_block_cut(uint64_t p, uint64_t c, uint64_t block)
+uint64_t ref_block_cut(ref_formula *f, uint64_t p, uint64_t c, uint64_t block)
 {
-    return (ref_block_first(p, c, block) + ref_block_first(p, c, block + 1)) / 2;
+    return (ref_block_first(f, p, c, block) + ref_block_first(f, p, c, block + 1)) / 2;
 }
 
-uint64_t ref_term_divisor(uint64_t row, uint64_t k)
+uint64_t ref_term_divisor(ref_formula *f, uint64_t row, uint64_t k)
 {
-    return (uint64_t)rows[row].m * k + (uint64_t)rows[row].j;
+    return (uint64_t)f->row[row].m * k + (uint64_t)f->row[row].j;
 }
 
-int64_t ref_term_exponent(uint64_t p, uint64_t row, uint64_t k)
+int64_t ref_term_exponent(ref_formula *f, uint64_t p, uint64_t row, uint64_t k)
 {
-    return 4 * (int64_t)(p - 1) + rows[row].l - 10 * (int64_t)k + 128;
+    return 4 * (int64_t)(p - 1) + f->row[row].l - (int64_t)(f->step * k) + 128;
 }
 
-int ref_term_added(uint64_t row, uint64_t k)
+int ref_term_added(ref_formula *f, uint64_t row, uint64_t k)
 {
-    return k % 2 == 0 ? rows[row].added : !rows[row].added;
+    return f->alternates && k % 2 == 1 ? !f->row[row].added : f->row[row].added;
 }
 
 static uint64_t power_of_two_mod(uint64_t exponent, uint64_t divisor)
@@ -109,10 +114,10 @@ static ref_u128 shifted_quotient(uint64_t x, uint64_t divisor)
     return (upper / divisor) << 64 | lower / divisor;
 }
 
-ref_u128 ref_term_size(uint64_t p, uint64_t row, uint64_t k)
+ref_u128 ref_term_size(ref_formula *f, uint64_t p, uint64_t row, uint64_t k)
 {
-    uint64_t divisor = ref_term_divisor(row, k);
-    int64_t exponent = ref_term_exponent(p, row, k);
+    uint64_t divisor = ref_term_divisor(f, row, k);
+    int64_t exponent = ref_term_exponent(f, p, row, k);
     if (exponent < 0)
         return 0;
     if (exponent < 128)
@@ -121,72 +126,72 @@ ref_u128 ref_term_size(uint64_t p, uint64_t row, uint64_t k)
 }
 
 /* The terms from `first` up to, not including, `end`. */
-static ref_u128 range_sum(uint64_t p, uint64_t row, uint64_t first, uint64_t end)
+static ref_u128 range_sum(ref_formula *f, uint64_t p, uint64_t row, uint64_t first, uint64_t end)
 {
     ref_u128 sum = 0;
     for (uint64_t k = first; k < end; k++) {
-        ref_u128 size = ref_term_size(p, row, k);
-        sum += ref_term_added(row, k) ? size : -size;
+        ref_u128 size = ref_term_size(f, p, row, k);
+        sum += ref_term_added(f, row, k) ? size : -size;
     }
     return sum;
 }
 
-static ref_u128 ticket_sum(uint64_t p, uint64_t c, uint64_t row, uint64_t block)
+static ref_u128 ticket_sum(ref_formula *f, uint64_t p, uint64_t c, uint64_t row, uint64_t block)
 {
-    return range_sum(p, row, ref_block_first(p, c, block), ref_block_first(p, c, block + 1));
+    return range_sum(f, p, row, ref_block_first(f, p, c, block), ref_block_first(f, p, c, block + 1));
 }
 
-static ref_u128 lower_sum(uint64_t p, uint64_t c, uint64_t row, uint64_t block)
+static ref_u128 lower_sum(ref_formula *f, uint64_t p, uint64_t c, uint64_t row, uint64_t block)
 {
-    return range_sum(p, row, ref_block_first(p, c, block), ref_block_cut(p, c, block));
+    return range_sum(f, p, row, ref_block_first(f, p, c, block), ref_block_cut(f, p, c, block));
 }
 
-static ref_u128 upper_sum(uint64_t p, uint64_t c, uint64_t row, uint64_t block)
+static ref_u128 upper_sum(ref_formula *f, uint64_t p, uint64_t c, uint64_t row, uint64_t block)
 {
-    return range_sum(p, row, ref_block_cut(p, c, block), ref_block_first(p, c, block + 1));
+    return range_sum(f, p, row, ref_block_cut(f, p, c, block), ref_block_first(f, p, c, block + 1));
 }
 
-ref_refusals ref_work_refusals(uint64_t p, uint64_t c, uint64_t row, uint64_t block, size_t sum_len)
+ref_refusals ref_work_refusals(ref_formula *f, uint64_t p, uint64_t c, uint64_t row, uint64_t block, size_t sum_len)
 {
     ref_refusals refusals = 0;
     if (sum_len != 16)
         refusals |= SIZE;
-    if (!run_in_range(p, c))
+    if (!run_in_range(f, p, c))
         refusals |= RANGE;
-    if (!ticket_in_range(c, row, block))
+    if (!ticket_in_range(f, c, row, block))
         refusals |= TICKET;
     return refusals;
 }
 
-static int64_t work(ref_u128 (*sum_of)(uint64_t p, uint64_t c, uint64_t row, uint64_t block), uint64_t p, uint64_t c,
-                    uint64_t row, uint64_t block, uint8_t *sum, size_t sum_len)
+static int64_t work(ref_u128 (*sum_of)(ref_formula *f, uint64_t p, uint64_t c, uint64_t row, uint64_t block), ref_formula *f,
+                    uint64_t p, uint64_t c, uint64_t row, uint64_t block, uint8_t *sum, size_t sum_len)
 {
-    ref_refusals refusals = ref_work_refusals(p, c, row, block, sum_len);
+    ref_refusals refusals = ref_work_refusals(f, p, c, row, block, sum_len);
     if (refusals == 0)
-        store_sum(sum, sum_of(p, c, row, block));
+        store_sum(sum, sum_of(f, p, c, row, block));
     return ref_answer(refusals);
 }
 
-int64_t ref_work(uint64_t p, uint64_t c, uint64_t row, uint64_t block, uint8_t *sum, size_t sum_len)
+int64_t ref_work(ref_formula *f, uint64_t p, uint64_t c, uint64_t row, uint64_t block, uint8_t *sum, size_t sum_len)
 {
-    return work(ticket_sum, p, c, row, block, sum, sum_len);
+    return work(ticket_sum, f, p, c, row, block, sum, sum_len);
 }
 
-int64_t ref_work_lower(uint64_t p, uint64_t c, uint64_t row, uint64_t block, uint8_t *sum, size_t sum_len)
+int64_t ref_work_lower(ref_formula *f, uint64_t p, uint64_t c, uint64_t row, uint64_t block, uint8_t *sum, size_t sum_len)
 {
-    return work(lower_sum, p, c, row, block, sum, sum_len);
+    return work(lower_sum, f, p, c, row, block, sum, sum_len);
 }
 
-int64_t ref_work_upper(uint64_t p, uint64_t c, uint64_t row, uint64_t block, uint8_t *sum, size_t sum_len)
+int64_t ref_work_upper(ref_formula *f, uint64_t p, uint64_t c, uint64_t row, uint64_t block, uint8_t *sum, size_t sum_len)
 {
-    return work(upper_sum, p, c, row, block, sum, sum_len);
+    return work(upper_sum, f, p, c, row, block, sum, sum_len);
 }
 
-/* The ledger: p at 0, C at 8, zero bytes at 10, the row sums at 16, marks at 128. */
+/* The ledger: p at 0, C at 8, zero bytes at 10, the row sums at 16, and the marks after them. */
 
-static const uint8_t *mark_byte(const uint8_t *ledger, uint64_t row, uint64_t block)
+static size_t mark_at(ref_formula *f, uint64_t row, uint64_t block)
 {
-    return ledger + 128 + 32 * row + block / 8;
+    return 16 + 16 * f->rows + 32 * row + block / 8;
 }
 
 ref_u128 ref_row_sum(const uint8_t *ledger, uint64_t row)
@@ -194,28 +199,28 @@ ref_u128 ref_row_sum(const uint8_t *ledger, uint64_t row)
     return ref_load_sum(ledger + 16 + 16 * row);
 }
 
-int ref_marked(const uint8_t *ledger, uint64_t row, uint64_t block)
+int ref_marked(ref_formula *f, const uint8_t *ledger, uint64_t row, uint64_t block)
 {
-    return *mark_byte(ledger, row, block) >> block % 8 & 1;
+    return ledger[mark_at(f, row, block)] >> block % 8 & 1;
 }
 
-static void post_sum(uint8_t *ledger, uint64_t row, uint64_t block, const uint8_t *sum)
+static void post_sum(ref_formula *f, uint8_t *ledger, uint64_t row, uint64_t block, const uint8_t *sum)
 {
-    ledger[mark_byte(ledger, row, block) - ledger] |= (uint8_t)(1 << block % 8);
+    ledger[mark_at(f, row, block)] |= (uint8_t)(1 << block % 8);
     store_sum(ledger + 16 + 16 * row, ref_row_sum(ledger, row) + ref_load_sum(sum));
 }
 
-int ref_ledger_in_order(const uint8_t *ledger)
+int ref_ledger_in_order(ref_formula *f, const uint8_t *ledger)
 {
     uint64_t c = ref_load(ledger + 8, 2);
-    if (!run_in_range(ref_load(ledger, 8), c))
+    if (!run_in_range(f, ref_load(ledger, 8), c))
         return 0;
     for (int i = 10; i < 16; i++)
         if (ledger[i] != 0)
             return 0;
-    for (uint64_t row = 0; row < 7; row++)
+    for (uint64_t row = 0; row < f->rows; row++)
         for (uint64_t block = c; block < 256; block++)
-            if (ref_marked(ledger, row, block))
+            if (ref_marked(f, ledger, row, block))
                 return 0;
     return 1;
 }
@@ -225,49 +230,49 @@ static int same_run(const uint8_t *ledger, uint64_t p, uint64_t c)
     return ref_load(ledger, 8) == p && ref_load(ledger + 8, 2) == c;
 }
 
-ref_refusals ref_open_refusals(uint64_t p, uint64_t c, size_t ledger_len)
+ref_refusals ref_open_refusals(ref_formula *f, uint64_t p, uint64_t c, size_t ledger_len)
 {
-    return (ledger_len != REF_LEDGER_SIZE ? SIZE : 0u) | (run_in_range(p, c) ? 0u : RANGE);
+    return (ledger_len != f->ledger ? SIZE : 0u) | (run_in_range(f, p, c) ? 0u : RANGE);
 }
 
-int64_t ref_open(uint64_t p, uint64_t c, uint8_t *ledger, size_t ledger_len)
+int64_t ref_open(ref_formula *f, uint64_t p, uint64_t c, uint8_t *ledger, size_t ledger_len)
 {
-    ref_refusals refusals = ref_open_refusals(p, c, ledger_len);
+    ref_refusals refusals = ref_open_refusals(f, p, c, ledger_len);
     if (refusals == 0) {
-        memset(ledger, 0, REF_LEDGER_SIZE);
+        memset(ledger, 0, f->ledger);
         store(ledger, 8, p);
         store(ledger + 8, 2, c);
     }
     return ref_answer(refusals);
 }
 
-ref_refusals ref_post_refusals(const uint8_t *ledger, size_t ledger_len, uint64_t p, uint64_t c, uint64_t row,
-                               uint64_t block, size_t sum_len)
+ref_refusals ref_post_refusals(ref_formula *f, const uint8_t *ledger, size_t ledger_len, uint64_t p, uint64_t c,
+                               uint64_t row, uint64_t block, size_t sum_len)
 {
     ref_refusals refusals = 0;
-    if (ledger_len != REF_LEDGER_SIZE || sum_len != 16)
+    if (ledger_len != f->ledger || sum_len != 16)
         refusals |= SIZE;
-    if (!run_in_range(p, c))
+    if (!run_in_range(f, p, c))
         refusals |= RANGE;
-    if (!ticket_in_range(c, row, block))
+    if (!ticket_in_range(f, c, row, block))
         refusals |= TICKET;
-    if (ledger_len != REF_LEDGER_SIZE)
+    if (ledger_len != f->ledger)
         return refusals;
-    if (!ref_ledger_in_order(ledger))
+    if (!ref_ledger_in_order(f, ledger))
         refusals |= LEDGER;
     if (!same_run(ledger, p, c))
         refusals |= RUN;
-    if (row <= 6 && block < 256 && ref_marked(ledger, row, block))
+    if (row < f->rows && block < 256 && ref_marked(f, ledger, row, block))
         refusals |= MARKED;
     return refusals;
 }
 
-int64_t ref_post(uint8_t *ledger, size_t ledger_len, uint64_t p, uint64_t c, uint64_t row, uint64_t block,
+int64_t ref_post(ref_formula *f, uint8_t *ledger, size_t ledger_len, uint64_t p, uint64_t c, uint64_t row, uint64_t block,
                  const uint8_t *sum, size_t sum_len)
 {
-    ref_refusals refusals = ref_post_refusals(ledger, ledger_len, p, c, row, block, sum_len);
+    ref_refusals refusals = ref_post_refusals(f, ledger, ledger_len, p, c, row, block, sum_len);
     if (refusals == 0)
-        post_sum(ledger, row, block, sum);
+        post_sum(f, ledger, row, block, sum);
     return ref_answer(refusals);
 }
 
@@ -278,18 +283,19 @@ static uint64_t pair_at(const uint8_t *list, size_t i)
     return ref_load(list + 2 * i, 2);
 }
 
-ref_refusals ref_sheet_write_refusals(uint64_t p, uint64_t c, const uint8_t *list, size_t list_len, size_t sheet_len)
+ref_refusals ref_sheet_write_refusals(ref_formula *f, uint64_t p, uint64_t c, const uint8_t *list, size_t list_len,
+                                      size_t sheet_len)
 {
     ref_refusals refusals = 0;
     size_t e = list_len / 2;
-    if (list_len % 2 != 0 || list_len > 3584 || sheet_len < 16 + 20 * e)
+    if (list_len % 2 != 0 || list_len > f->list || sheet_len < 16 + 20 * e)
         refusals |= SIZE;
-    if (!run_in_range(p, c))
+    if (!run_in_range(f, p, c))
         refusals |= RANGE;
     for (size_t i = 0; i < e; i++) {
         if (i > 0 && pair_at(list, i - 1) >= pair_at(list, i))
             refusals |= FORM;
-        if (!ticket_in_range(c, pair_at(list, i) / 256, pair_at(list, i) % 256))
+        if (!ticket_in_range(f, c, pair_at(list, i) / 256, pair_at(list, i) % 256))
             refusals |= TICKET;
     }
     return refusals;
@@ -322,9 +328,10 @@ static uint64_t entry_key(const uint8_t *sheet, size_t i)
     return 256 * entry_row(sheet, i) + entry_block(sheet, i);
 }
 
-int64_t ref_sheet_write(uint64_t p, uint64_t c, const uint8_t *list, size_t list_len, uint8_t *sheet, size_t sheet_len)
+int64_t ref_sheet_write(ref_formula *f, uint64_t p, uint64_t c, const uint8_t *list, size_t list_len, uint8_t *sheet,
+                        size_t sheet_len)
 {
-    ref_refusals refusals = ref_sheet_write_refusals(p, c, list, list_len, sheet_len);
+    ref_refusals refusals = ref_sheet_write_refusals(f, p, c, list, list_len, sheet_len);
     size_t e = list_len / 2;
     if (refusals != 0)
         return ref_answer(refusals);
@@ -336,19 +343,19 @@ int64_t ref_sheet_write(uint64_t p, uint64_t c, const uint8_t *list, size_t list
         uint64_t row = pair_at(list, i) / 256, block = pair_at(list, i) % 256;
         store(sheet + 16 + 4 * i, 1, row);
         store(sheet + 16 + 4 * i + 2, 2, block);
-        store_sum(sheet + 16 + 4 * e + 16 * i, ticket_sum(p, c, row, block));
+        store_sum(sheet + 16 + 4 * e + 16 * i, ticket_sum(f, p, c, row, block));
     }
     return (int64_t)(16 + 20 * e);
 }
 
 /* Numbers 2, 3 and 4 of a sheet of at least 16 bytes. */
-static ref_refusals content_refusals(const uint8_t *sheet, size_t sheet_len)
+static ref_refusals content_refusals(ref_formula *f, const uint8_t *sheet, size_t sheet_len)
 {
     struct head head = head_of(sheet);
     ref_refusals refusals = 0;
     size_t there = (sheet_len - 16) / 4;
     size_t e = head.e < there ? head.e : there;
-    if (!run_in_range(head.p, head.c))
+    if (!run_in_range(f, head.p, head.c))
         refusals |= RANGE;
     if (sheet_len != 16 + 20 * head.e || ref_load(sheet + 12, 4) != 0)
         refusals |= FORM;
@@ -357,27 +364,28 @@ static ref_refusals content_refusals(const uint8_t *sheet, size_t sheet_len)
             refusals |= FORM;
         if (i > 0 && entry_key(sheet, i - 1) >= entry_key(sheet, i))
             refusals |= FORM;
-        if (!ticket_in_range(head.c, entry_row(sheet, i), entry_block(sheet, i)))
+        if (!ticket_in_range(f, head.c, entry_row(sheet, i), entry_block(sheet, i)))
             refusals |= TICKET;
     }
     return refusals;
 }
 
-ref_refusals ref_sheet_read_refusals(const uint8_t *sheet, size_t sheet_len, size_t list_len, size_t sums_len)
+ref_refusals ref_sheet_read_refusals(ref_formula *f, const uint8_t *sheet, size_t sheet_len, size_t list_len,
+                                     size_t sums_len)
 {
     if (sheet_len < 16)
         return SIZE;
     uint64_t e = head_of(sheet).e;
-    ref_refusals refusals = content_refusals(sheet, sheet_len);
-    if (sheet_len > 35856 || list_len < 2 * e || sums_len < 16 * e)
+    ref_refusals refusals = content_refusals(f, sheet, sheet_len);
+    if (sheet_len > f->sheet || list_len < 2 * e || sums_len < 16 * e)
         refusals |= SIZE;
     return refusals;
 }
 
-int64_t ref_sheet_read(const uint8_t *sheet, size_t sheet_len, uint8_t *list, size_t list_len,
+int64_t ref_sheet_read(ref_formula *f, const uint8_t *sheet, size_t sheet_len, uint8_t *list, size_t list_len,
                        uint8_t *sums, size_t sums_len)
 {
-    ref_refusals refusals = ref_sheet_read_refusals(sheet, sheet_len, list_len, sums_len);
+    ref_refusals refusals = ref_sheet_read_refusals(f, sheet, sheet_len, list_len, sums_len);
     if (refusals != 0)
         return ref_answer(refusals);
     size_t e = head_of(sheet).e;
@@ -389,39 +397,40 @@ int64_t ref_sheet_read(const uint8_t *sheet, size_t sheet_len, uint8_t *list, si
 }
 
 /* Numbers 6 and 7 of a sheet of at least 16 bytes and a ledger of its size. */
-static ref_refusals posting_refusals(const uint8_t *ledger, const uint8_t *sheet, size_t sheet_len)
+static ref_refusals posting_refusals(ref_formula *f, const uint8_t *ledger, const uint8_t *sheet, size_t sheet_len)
 {
     struct head head = head_of(sheet);
     ref_refusals refusals = same_run(ledger, head.p, head.c) ? 0u : RUN;
     for (size_t i = 0; i < head.e && i < (sheet_len - 16) / 4; i++) {
         uint64_t row = entry_row(sheet, i), block = entry_block(sheet, i);
-        if (row <= 6 && block < 256 && ref_marked(ledger, row, block))
+        if (row < f->rows && block < 256 && ref_marked(f, ledger, row, block))
             refusals |= MARKED;
     }
     return refusals;
 }
 
-ref_refusals ref_sheet_post_refusals(const uint8_t *ledger, size_t ledger_len, const uint8_t *sheet, size_t sheet_len)
+ref_refusals ref_sheet_post_refusals(ref_formula *f, const uint8_t *ledger, size_t ledger_len, const uint8_t *sheet,
+                                     size_t sheet_len)
 {
     ref_refusals refusals = 0;
-    if (ledger_len != REF_LEDGER_SIZE || sheet_len < 16 || sheet_len > 35856)
+    if (ledger_len != f->ledger || sheet_len < 16 || sheet_len > f->sheet)
         refusals |= SIZE;
     if (sheet_len >= 16)
-        refusals |= content_refusals(sheet, sheet_len);
-    if (ledger_len == REF_LEDGER_SIZE && !ref_ledger_in_order(ledger))
+        refusals |= content_refusals(f, sheet, sheet_len);
+    if (ledger_len == f->ledger && !ref_ledger_in_order(f, ledger))
         refusals |= LEDGER;
-    if (ledger_len == REF_LEDGER_SIZE && sheet_len >= 16)
-        refusals |= posting_refusals(ledger, sheet, sheet_len);
+    if (ledger_len == f->ledger && sheet_len >= 16)
+        refusals |= posting_refusals(f, ledger, sheet, sheet_len);
     return refusals;
 }
 
-int64_t ref_sheet_post(uint8_t *ledger, size_t ledger_len, const uint8_t *sheet, size_t sheet_len)
+int64_t ref_sheet_post(ref_formula *f, uint8_t *ledger, size_t ledger_len, const uint8_t *sheet, size_t sheet_len)
 {
-    ref_refusals refusals = ref_sheet_post_refusals(ledger, ledger_len, sheet, sheet_len);
+    ref_refusals refusals = ref_sheet_post_refusals(f, ledger, ledger_len, sheet, sheet_len);
     if (refusals != 0)
         return ref_answer(refusals);
     size_t e = head_of(sheet).e;
     for (size_t i = 0; i < e; i++)
-        post_sum(ledger, entry_row(sheet, i), entry_block(sheet, i), sheet + 16 + 4 * e + 16 * i);
+        post_sum(f, ledger, entry_row(sheet, i), entry_block(sheet, i), sheet + 16 + 4 * e + 16 * i);
     return 0;
 }

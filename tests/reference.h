@@ -1,7 +1,9 @@
 /*
- * An implementation of the nine calls written from document 01 and slips 1 and
- * 3 of document 02 alone, for comparison. It prefers the obvious to the fast: remainders by `%` on 128
- * bits, every condition of the refusal table evaluated by itself, terms added from first to last.
+ * An implementation of the nine calls of each kind of runs, written from
+ * document 01 and slips 1, 3 and 4 of document 02 alone, for comparison. It
+ * prefers the obvious to the fast: remainders by `%` on 128 bits, every
+ * condition of the refusal table evaluated by itself, terms added from first
+ * to last.
  */
 #ifndef REFERENCE_H
 #define REFERENCE_H
@@ -11,18 +13,32 @@
 
 __extension__ typedef unsigned __int128 ref_u128;
 
-/* The arguments and answers of the calls of bbp.h. */
-int64_t ref_work(uint64_t p, uint64_t c, uint64_t row, uint64_t block, uint8_t *sum, size_t sum_len);
-int64_t ref_work_lower(uint64_t p, uint64_t c, uint64_t row, uint64_t block, uint8_t *sum, size_t sum_len);
-int64_t ref_work_upper(uint64_t p, uint64_t c, uint64_t row, uint64_t block, uint8_t *sum, size_t sum_len);
-int64_t ref_open(uint64_t p, uint64_t c, uint8_t *ledger, size_t ledger_len);
-int64_t ref_post(uint8_t *ledger, size_t ledger_len, uint64_t p, uint64_t c, uint64_t row, uint64_t block,
+/*
+ * A formula, by which a kind of runs goes. Term k of a row has N = mk + j and
+ * E = 4n + l - step * k + 128; where signs alternate, those of odd k are not
+ * the row's. The sizes are the ledger's, and the largest of a list and a sheet.
+ */
+typedef const struct ref_formula {
+    uint64_t last_position, rows, step;
+    int alternates;
+    size_t ledger, list, sheet;
+    struct { int m, j, l, added; } row[7];
+} ref_formula;
+extern ref_formula ref_bellard, ref_check;
+
+/* The arguments and answers of the calls of bbp.h, with the formula before them. */
+typedef int64_t ref_work_call(ref_formula *f, uint64_t p, uint64_t c, uint64_t row, uint64_t block, uint8_t *sum,
+                              size_t sum_len);
+ref_work_call ref_work, ref_work_lower, ref_work_upper;
+int64_t ref_open(ref_formula *f, uint64_t p, uint64_t c, uint8_t *ledger, size_t ledger_len);
+int64_t ref_post(ref_formula *f, uint8_t *ledger, size_t ledger_len, uint64_t p, uint64_t c, uint64_t row, uint64_t block,
                  const uint8_t *sum, size_t sum_len);
-int64_t ref_sheet_write(uint64_t p, uint64_t c, const uint8_t *list, size_t list_len, uint8_t *sheet, size_t sheet_len);
-int64_t ref_sheet_read(const uint8_t *sheet, size_t sheet_len, uint8_t *list, size_t list_len,
+int64_t ref_sheet_write(ref_formula *f, uint64_t p, uint64_t c, const uint8_t *list, size_t list_len, uint8_t *sheet,
+                        size_t sheet_len);
+int64_t ref_sheet_read(ref_formula *f, const uint8_t *sheet, size_t sheet_len, uint8_t *list, size_t list_len,
                        uint8_t *sums, size_t sums_len);
-int64_t ref_sheet_post(uint8_t *ledger, size_t ledger_len, const uint8_t *sheet, size_t sheet_len);
-int64_t ref_close(const uint8_t *ledger, size_t ledger_len, uint8_t *digits, size_t digits_len);
+int64_t ref_sheet_post(ref_formula *f, uint8_t *ledger, size_t ledger_len, const uint8_t *sheet, size_t sheet_len);
+int64_t ref_close(ref_formula *f, const uint8_t *ledger, size_t ledger_len, uint8_t *digits, size_t digits_len);
 
 /*
  * Which numbers of the refusal table apply to a call: bit i is set if number i
@@ -31,33 +47,36 @@ int64_t ref_close(const uint8_t *ledger, size_t ledger_len, uint8_t *digits, siz
  */
 typedef unsigned ref_refusals;
 /* The working calls, of a ticket and of its halves, are refused alike. */
-ref_refusals ref_work_refusals(uint64_t p, uint64_t c, uint64_t row, uint64_t block, size_t sum_len);
-ref_refusals ref_open_refusals(uint64_t p, uint64_t c, size_t ledger_len);
-ref_refusals ref_post_refusals(const uint8_t *ledger, size_t ledger_len, uint64_t p, uint64_t c, uint64_t row,
-                               uint64_t block, size_t sum_len);
-ref_refusals ref_sheet_write_refusals(uint64_t p, uint64_t c, const uint8_t *list, size_t list_len, size_t sheet_len);
-ref_refusals ref_sheet_read_refusals(const uint8_t *sheet, size_t sheet_len, size_t list_len, size_t sums_len);
-ref_refusals ref_sheet_post_refusals(const uint8_t *ledger, size_t ledger_len, const uint8_t *sheet, size_t sheet_len);
-ref_refusals ref_close_refusals(const uint8_t *ledger, size_t ledger_len, size_t digits_len);
+ref_refusals ref_work_refusals(ref_formula *f, uint64_t p, uint64_t c, uint64_t row, uint64_t block, size_t sum_len);
+ref_refusals ref_open_refusals(ref_formula *f, uint64_t p, uint64_t c, size_t ledger_len);
+ref_refusals ref_post_refusals(ref_formula *f, const uint8_t *ledger, size_t ledger_len, uint64_t p, uint64_t c,
+                               uint64_t row, uint64_t block, size_t sum_len);
+ref_refusals ref_sheet_write_refusals(ref_formula *f, uint64_t p, uint64_t c, const uint8_t *list, size_t list_len,
+                                      size_t sheet_len);
+ref_refusals ref_sheet_read_refusals(ref_formula *f, const uint8_t *sheet, size_t sheet_len, size_t list_len,
+                                     size_t sums_len);
+ref_refusals ref_sheet_post_refusals(ref_formula *f, const uint8_t *ledger, size_t ledger_len, const uint8_t *sheet,
+                                     size_t sheet_len);
+ref_refusals ref_close_refusals(ref_formula *f, const uint8_t *ledger, size_t ledger_len, size_t digits_len);
 
 /* Parts that the vectors speak of. */
-uint64_t ref_term_count(uint64_t p);
-uint64_t ref_block_first(uint64_t p, uint64_t c, uint64_t block);
-uint64_t ref_block_cut(uint64_t p, uint64_t c, uint64_t block);
-uint64_t ref_term_divisor(uint64_t row, uint64_t k);
-int64_t ref_term_exponent(uint64_t p, uint64_t row, uint64_t k);
-int ref_term_added(uint64_t row, uint64_t k);
-ref_u128 ref_term_size(uint64_t p, uint64_t row, uint64_t k);
+uint64_t ref_term_count(ref_formula *f, uint64_t p);
+uint64_t ref_block_first(ref_formula *f, uint64_t p, uint64_t c, uint64_t block);
+uint64_t ref_block_cut(ref_formula *f, uint64_t p, uint64_t c, uint64_t block);
+uint64_t ref_term_divisor(ref_formula *f, uint64_t row, uint64_t k);
+int64_t ref_term_exponent(ref_formula *f, uint64_t p, uint64_t row, uint64_t k);
+int ref_term_added(ref_formula *f, uint64_t row, uint64_t k);
+ref_u128 ref_term_size(ref_formula *f, uint64_t p, uint64_t row, uint64_t k);
 
-/* The ledger's bytes, in numbers of its own and not the header's. */
-enum { REF_LEDGER_SIZE = 352 };
+/* The number of a run's terms that are added, or of those that are subtracted: a and b of the documents. */
+uint64_t ref_charged_terms(ref_formula *f, uint64_t p, int added);
 
 /* Little-endian numbers, and the ledger, for the closing's own file. */
 uint64_t ref_load(const uint8_t *at, size_t bytes);
 ref_u128 ref_load_sum(const uint8_t *at);
 int64_t ref_answer(ref_refusals refusals);
-int ref_ledger_in_order(const uint8_t *ledger);
-int ref_marked(const uint8_t *ledger, uint64_t row, uint64_t block);
+int ref_ledger_in_order(ref_formula *f, const uint8_t *ledger);
+int ref_marked(ref_formula *f, const uint8_t *ledger, uint64_t row, uint64_t block);
 ref_u128 ref_row_sum(const uint8_t *ledger, uint64_t row);
 
 #endif

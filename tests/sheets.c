@@ -4,7 +4,7 @@
 
 void prepare_sheet(struct sheet *sheet)
 {
-    uint8_t list[BBP_LIST_MAX];
+    uint8_t list[LIST_MAX];
     any_bytes(sheet->bytes, SHEET_ROOM);
     sheet->p = any_position();
     sheet->c = any_blocks();
@@ -14,7 +14,7 @@ void prepare_sheet(struct sheet *sheet)
 
 void make_sheet(struct sheet *sheet, const struct sheet_form *form)
 {
-    uint8_t list[BBP_LIST_MAX + 2];
+    uint8_t list[LIST_MAX + 2];
     any_bytes(sheet->bytes, SHEET_ROOM);
     first_pairs(list, form->c > 0 ? form->c : 1, form->e);
     any_sheet(sheet->bytes, form->p, form->c, list, form->e);
@@ -27,7 +27,7 @@ void make_sheet(struct sheet *sheet, const struct sheet_form *form)
 
 void sheet_of_blocks(struct sheet *sheet, uint64_t blocks, uint64_t c)
 {
-    struct sheet_form form = {1, blocks, 7 * blocks, BBP_SHEET_SIZE(7 * blocks), {{8, 2, c}}};
+    struct sheet_form form = {1, blocks, ROWS * blocks, SHEET_SIZE(ROWS * blocks), {{8, 2, c}}};
     make_sheet(sheet, &form);
     sheet->c = c;
 }
@@ -42,24 +42,26 @@ const struct sheet_case sheet_cases[] = {
     {"16 bytes", 0, {1, 1, 0, 16, UNPATCHED}},
     {"16 bytes, C 256", 0, {1, 256, 0, 16, UNPATCHED}},
     {"17 bytes, e 0", 3, {1, 1, 0, 17, UNPATCHED}},
-    {"35,856 bytes, e 0", 3, {1, 256, 0, 35856, UNPATCHED}},
-    {"35,857 bytes, e 0", 1, {1, 256, 0, 35857, UNPATCHED}},
-    {"e 7 in 155 bytes", 3, {1, 1, 7, 155, UNPATCHED}},
-    {"e 7 in 157 bytes", 3, {1, 1, 7, 157, UNPATCHED}},
-    {"e 1,792 in 35,856 bytes", 0, {1, 256, 1792, 35856, UNPATCHED}},
-    {"e 1,792 in 35,857 bytes", 1, {1, 256, 1792, 35857, UNPATCHED}},
-    {"e 1,793 in 35,876 bytes", 1, {1, 256, 1793, 35876, UNPATCHED}},
+    {"the longest sheet's bytes, e 0", 3, {1, 256, 0, SHEET_MAX, UNPATCHED}},
+    {"a byte more than the longest sheet, e 0", 1, {1, 256, 0, SHEET_MAX + 1, UNPATCHED}},
+    {"C 1, all tickets, a byte less", 3, {1, 1, ROWS, SHEET_SIZE(ROWS) - 1, UNPATCHED}},
+    {"C 1, all tickets, a byte more", 3, {1, 1, ROWS, SHEET_SIZE(ROWS) + 1, UNPATCHED}},
+    {"the longest sheet", 0, {1, 256, TICKETS, SHEET_MAX, UNPATCHED}},
+    {"the longest sheet, a byte more", 1, {1, 256, TICKETS, SHEET_MAX + 1, UNPATCHED}},
+    {"the longest sheet, a ticket more", 1, {1, 256, TICKETS + 1, SHEET_MAX + 20, UNPATCHED}},
     {"e 65,535 in 16 bytes", 3, {1, 1, 0, 16, {{10, 2, 65535}}}},
     {"e 65,535 in 16 bytes, C 256", 3, {1, 256, 0, 16, {{10, 2, 65535}}}},
     {"e 65,535 in 16 bytes, p 0", 2, {0, 256, 0, 16, {{10, 2, 65535}}}},
-    {"e 65,535 in 35,856 bytes", 3, {1, 1, 0, 35856, {{10, 2, 65535}}}},
-    {"e 65,535 in 35,857 bytes", 1, {1, 1, 0, 35857, {{10, 2, 65535}}}},
+    {"e 65,535 in the longest sheet's bytes", 3, {1, 1, 0, SHEET_MAX, {{10, 2, 65535}}}},
+    {"e 65,535 in a byte more", 1, {1, 1, 0, SHEET_MAX + 1, {{10, 2, 65535}}}},
     {"p 0", 2, {0, 1, 1, 36, UNPATCHED}},
-    {"p 2^60 + 1", 2, {BBP_MAX_POSITION + 1, 1, 1, 36, UNPATCHED}},
+    {"p one above the last", 2, {LAST_POSITION + 1, 1, 1, 36, UNPATCHED}},
+    {"p twice the last", 2, {2 * LAST_POSITION, 1, 1, 36, UNPATCHED}},
+    {"p twice the last, e 0", 2, {2 * LAST_POSITION, 1, 0, 16, UNPATCHED}},
     {"C 0", 2, {1, 0, 1, 36, UNPATCHED}},
     {"C 257", 2, {1, 257, 1, 36, UNPATCHED}},
     {"C 65,535", 2, {1, 65535, 1, 36, UNPATCHED}},
-    {"p 2^60, C 256", 0, {BBP_MAX_POSITION, 256, 1, 36, UNPATCHED}},
+    {"last p, C 256", 0, {LAST_POSITION, 256, 1, 36, UNPATCHED}},
     {"C 257, equal tickets", 2, {1, 257, 2, 56, ENTRIES(0, 0, 0, 0)}},
     {"e 0, C 513, zero byte 15", 2, {1, 513, 0, 16, {{15, 1, 1}}}},
     {"e 0, p 0", 2, {0, 1, 0, 16, UNPATCHED}},
@@ -73,11 +75,12 @@ const struct sheet_case sheet_cases[] = {
     {"(0, 256), (1, 0): 256 twice", 3, {1, 256, 2, 56, ENTRIES(0, 256, 1, 0)}},
     {"(0, 300), (1, 44): 300 twice", 3, {1, 256, 2, 56, ENTRIES(0, 300, 1, 44)}},
     {"(0, 300), (1, 100): 300 below 356", 4, {1, 256, 2, 56, ENTRIES(0, 300, 1, 100)}},
-    {"(7, 0), (0, 0)", 3, {1, 256, 2, 56, ENTRIES(7, 0, 0, 0)}},
-    {"(7, 0), (6, 255)", 3, {1, 256, 2, 56, ENTRIES(7, 0, 6, 255)}},
-    {"(6, 255), (7, 0)", 4, {1, 256, 2, 56, ENTRIES(6, 255, 7, 0)}},
+    {"row above the last, (0, 0)", 3, {1, 256, 2, 56, ENTRIES(ROWS, 0, 0, 0)}},
+    {"row above the last, last row", 3, {1, 256, 2, 56, ENTRIES(ROWS, 0, LAST_ROW, 255)}},
+    {"last row, row above the last", 4, {1, 256, 2, 56, ENTRIES(LAST_ROW, 255, ROWS, 0)}},
+    {"(0, 0), row above the last", 4, {1, 256, 2, 56, ENTRIES(0, 0, ROWS, 0)}},
     {"(0, 0), (7, 0)", 4, {1, 256, 2, 56, ENTRIES(0, 0, 7, 0)}},
-    {"(0, 0), (6, 256)", 4, {1, 256, 2, 56, ENTRIES(0, 0, 6, 256)}},
+    {"(0, 0), last row, block 256", 4, {1, 256, 2, 56, ENTRIES(0, 0, LAST_ROW, 256)}},
     {"(0, 0), (255, 65535)", 4, {1, 256, 2, 56, ENTRIES(0, 0, 255, 65535)}},
     {"the greatest entry twice", 3, {1, 256, 2, 56, ENTRIES(255, 65535, 255, 65535)}},
     {"C 1, (0, 0), (0, 1)", 4, {1, 1, 2, 56, ENTRIES(0, 0, 0, 1)}},
@@ -89,10 +92,12 @@ const struct sheet_case sheet_cases[] = {
     {"e 0 in 56 bytes", 3, {1, 1, 2, 56, {{10, 1, 0}}}},
     {"C 1, e 2", 0, {1, 1, 2, 56, UNPATCHED}},
     {"C 1, e 2, another sum", 0, {1, 1, 2, 56, {{24, 1, 6}}}},
-    {"C 1, e 7", 0, {1, 1, 7, 156, UNPATCHED}},
-    {"C 1, e 8, row 7", 4, {1, 1, 8, 176, UNPATCHED}},
-    {"C 1, e 8, row 6 twice", 3, {1, 1, 8, 176, {{44, 4, ENTRY(6, 0)}}}},
-    {"C 1, e 8, row 6, block 1", 4, {1, 1, 8, 176, {{44, 4, ENTRY(6, 1)}}}},
+    {"C 1, all tickets", 0, {1, 1, ROWS, SHEET_SIZE(ROWS), UNPATCHED}},
+    {"C 1, all tickets, row above the last", 4, {1, 1, ROWS + 1, SHEET_SIZE(ROWS + 1), UNPATCHED}},
+    {"C 1, all tickets, last row twice", 3,
+     {1, 1, ROWS + 1, SHEET_SIZE(ROWS + 1), {{16 + 4 * ROWS, 4, ENTRY(LAST_ROW, 0)}}}},
+    {"C 1, all tickets, last row, block 1", 4,
+     {1, 1, ROWS + 1, SHEET_SIZE(ROWS + 1), {{16 + 4 * ROWS, 4, ENTRY(LAST_ROW, 1)}}}},
 };
 const size_t sheet_case_count = sizeof sheet_cases / sizeof sheet_cases[0];
 
@@ -147,21 +152,21 @@ static int zero_byte(struct sheet *sheet)
 static int wrong_length(struct sheet *sheet)
 {
     size_t step = 1 + below(19);
-    if (sheet->len != BBP_SHEET_SIZE(sheet->e))
+    if (sheet->len != SHEET_SIZE(sheet->e))
         return NOTHING;
     if (below(2) == 0 && sheet->e > 0)
         sheet->len -= step;
     else
         sheet->len += step;
-    return sheet->len > BBP_SHEET_MAX ? 1 : 3;
+    return sheet->len > SHEET_MAX ? 1 : 3;
 }
 
 int damage_sheet(struct sheet *sheet, int kind)
 {
     switch (kind) {
     case 0: sheet->len = below(16); return 1;
-    case 1: sheet->len = BBP_SHEET_MAX + 1 + below(40); return 1;
-    case 2: put(sheet->bytes + 10, 2, 1793), sheet->len = BBP_SHEET_SIZE(1793); return 1;
+    case 1: sheet->len = SHEET_MAX + 1 + below(SHEET_ROOM - SHEET_MAX); return 1;
+    case 2: put(sheet->bytes + 10, 2, TICKETS + 1), sheet->len = SHEET_SIZE(TICKETS + 1); return 1;
     case 3: put(sheet->bytes, 8, bad_position()); return 2;
     case 4: put(sheet->bytes + 8, 2, below(2) == 0 ? 0 : 257 + below(65536 - 257)); return 2;
     case 5: return wrong_length(sheet);
@@ -171,8 +176,8 @@ int damage_sheet(struct sheet *sheet, int kind)
     case 9: return zero_byte(sheet);
     case 10: return spoil_order(sheet, 0);
     case 11: return spoil_order(sheet, 1);
-    case 12: return last_row(sheet, 7);
-    case 13: return last_row(sheet, (uint8_t)(8 + below(248)));
+    case 12: return last_row(sheet, ROWS);
+    case 13: return last_row(sheet, (uint8_t)(ROWS + below(256 - ROWS)));
     case 14: return last_block(sheet, sheet->c);
     case 15: return last_block(sheet, 256 * (1 + below(255)) + below(256));
     case 16: any_bytes(sheet->bytes, sheet->len); return UNSURE;

@@ -1,9 +1,9 @@
 #!/usr/bin/env bash
-# symbols.sh LIBRARY CALL.. - the library exports the calls named and nothing else, and the header declares exactly these.
+# symbols.sh LIBRARY SYMBOL.. - the library exports the calls named and nothing else, and the header declares exactly these.
 set -euo pipefail
 library=$1
 shift
-wanted=$(printf 'bbp_%s\n' "$@" | sort)
+wanted=$(printf '%s\n' "$@" | sort)
 exported=$(nm -g --defined-only "$library" | awk 'NF == 3 { print $3 }' | sort)
 declared=$(${CC:-gcc} -E -P -Iinclude include/bbp.h | grep -o 'bbp_[a-z_]* *(' | tr -d ' (' | sort)
 compare() {

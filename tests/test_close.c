@@ -1,4 +1,4 @@
-/* bbp_close against the reference, and against closings whose answers stand here and in vectors.txt. */
+/* close against the reference, and against closings whose answers stand here and in vectors.txt. */
 #include "common.h"
 #include "vectors.h"
 
@@ -13,7 +13,7 @@ static struct {
 
 /*
  * A spread of a total over the row sums: the `rows` rows after `last` (row 0
- * after row 6) have the sum `each`, `last` has what is then left of the total
+ * after the last one) have the sum `each`, `last` has what is then left of the total
  * modulo 2^128, and the others have 0.
  */
 struct spread {
@@ -24,8 +24,8 @@ struct spread {
 
 static void put_spread(const struct spread *spread, uint64_t last, ref_u128 total)
 {
-    for (uint64_t i = 1; i < BBP_ROWS; i++)
-        set_row_sum(t.ledger, (last + i) % BBP_ROWS, i <= spread->rows ? spread->each : 0);
+    for (uint64_t i = 1; i < ROWS; i++)
+        set_row_sum(t.ledger, (last + i) % ROWS, i <= spread->rows ? spread->each : 0);
     set_row_sum(t.ledger, last, total - spread->rows * spread->each);
 }
 
@@ -34,10 +34,10 @@ static const struct spread in_one_row = {"in one row", 0, 0};
 /* Random row sums that add up to the total. */
 static void put_total(ref_u128 total)
 {
-    uint64_t last = below(BBP_ROWS);
-    for (uint64_t i = 1; i < BBP_ROWS; i++) {
+    uint64_t last = below(ROWS);
+    for (uint64_t i = 1; i < ROWS; i++) {
         ref_u128 sum = below(4) == 0 ? 0 : any_sum();
-        set_row_sum(t.ledger, (last + i) % BBP_ROWS, sum);
+        set_row_sum(t.ledger, (last + i) % ROWS, sum);
         total -= sum;
     }
     set_row_sum(t.ledger, last, total);
@@ -48,7 +48,7 @@ static void full_ledger(uint64_t p, uint64_t c)
     any_bytes(t.ledger, sizeof t.ledger);
     any_bytes(t.digits, sizeof t.digits);
     any_ledger(t.ledger, p, c, 256);
-    t.ledger_len = BBP_LEDGER_SIZE;
+    t.ledger_len = LEDGER_SIZE;
     t.digits_len = 32;
 }
 
@@ -63,7 +63,7 @@ static int unmark_one(void)
     uint64_t c = ref_load(t.ledger + 8, 2);
     if (c == 0 || c > 256)
         return NOTHING;
-    set_mark(t.ledger, below(7), below(4) == 0 ? c - 1 : below(c), 0);
+    set_mark(t.ledger, below(ROWS), below(4) == 0 ? c - 1 : below(c), 0);
     return 8;
 }
 
@@ -86,7 +86,7 @@ static int unsettled(void)
 /* A total near a multiple of 2^(128 - 4d), as near as the bounds of the run. */
 static int near_edge(void)
 {
-    uint64_t bound = 7 * (ref_term_count(ref_load(t.ledger, 8)) / 2), d = 1 + below(32);
+    uint64_t bound = ref_charged_terms(FORMULA, ref_load(t.ledger, 8), (int)below(2)), d = 1 + below(32);
     ref_u128 edge = any_sum() >> (128 - 4 * d) << (128 - 4 * d);
     ref_u128 step = below(4) == 0 ? below(64) : bound + below(10) - 3;
     put_total(below(2) == 0 ? edge + step : edge - step);
@@ -102,8 +102,8 @@ static int damage(int kind)
     case 3: t.digits_len = 0; return 1;
     case 4:
     case 5: spoil_ledger(t.ledger); return 5;
-    case 6: any_bytes(t.ledger, BBP_LEDGER_SIZE); return UNSURE;
-    case 7: t.ledger[below(BBP_LEDGER_SIZE)] ^= (uint8_t)(1 << below(8)); return UNSURE;
+    case 6: any_bytes(t.ledger, LEDGER_SIZE); return UNSURE;
+    case 7: t.ledger[below(LEDGER_SIZE)] ^= (uint8_t)(1 << below(8)); return UNSURE;
     case 8: return unmark_one();
     case 9: return open_ledger(any_chance());
     case 10: return unsettled();
@@ -114,12 +114,12 @@ static int damage(int kind)
 
 static int64_t compare(void)
 {
-    met(ref_close_refusals(t.ledger, t.ledger_len, t.digits_len));
+    met(ref_close_refusals(FORMULA, t.ledger, t.ledger_len, t.digits_len));
     uint8_t *ledger_copy = copy_of(t.ledger, t.ledger_len), *wanted = copy_of(t.digits, t.digits_len);
-    int64_t wanted_answer = ref_close(ledger_copy, t.ledger_len, wanted, t.digits_len);
+    int64_t wanted_answer = ref_close(FORMULA, ledger_copy, t.ledger_len, wanted, t.digits_len);
     const uint8_t *ledger = lend_input(0, t.ledger, t.ledger_len);
     uint8_t *digits = lend(1, t.digits, t.digits_len);
-    int64_t answer = bbp_close(ledger, t.ledger_len, digits, t.digits_len);
+    int64_t answer = CALL(close)(ledger, t.ledger_len, digits, t.digits_len);
     CHECK(answer == wanted_answer,
           "close p %" PRIu64 " C %" PRIu64 " lengths %zu %zu: answer %" PRId64 ", not %" PRId64, ref_load(t.ledger, 8),
           ref_load(t.ledger + 8, 2), t.ledger_len, t.digits_len, answer, wanted_answer);
@@ -137,26 +137,26 @@ static void expect_closing(int64_t answer, const char *wanted, const char *what,
     uint64_t p = ref_load(t.ledger, 8);
     CHECK(compare() == answer, "p %" PRIu64 ", %s, %s: the answer", p, what, how);
     memcpy(digits, t.digits, 32);
-    bbp_close(t.ledger, BBP_LEDGER_SIZE, digits, 32);
+    CALL(close)(t.ledger, LEDGER_SIZE, digits, 32);
     CHECK(answer < 0 || memcmp(digits, wanted, (size_t)answer) == 0, "p %" PRIu64 ", %s, %s: the digits", p, what, how);
 }
 
 /* Ways in which the row sums pass 2^128, and their lower words 2^64. */
 static const struct spread spreads[] = {
     {"one row of 2^128 - 1", 1, SUM(UINT64_MAX, UINT64_MAX)},
-    {"six rows of 2^128 - 1", 6, SUM(UINT64_MAX, UINT64_MAX)},
+    {"all other rows of 2^128 - 1", LAST_ROW, SUM(UINT64_MAX, UINT64_MAX)},
     {"one row of 2^127", 1, SUM(UINT64_C(1) << 63, 0)},
-    {"six rows of 2^127", 6, SUM(UINT64_C(1) << 63, 0)},
+    {"all other rows of 2^127", LAST_ROW, SUM(UINT64_C(1) << 63, 0)},
     {"one row of 2^64 - 1", 1, UINT64_MAX},
-    {"six rows of 2^64 - 1", 6, UINT64_MAX},
+    {"all other rows of 2^64 - 1", LAST_ROW, UINT64_MAX},
     {"two rows of 2^63", 2, UINT64_C(1) << 63},
-    {"six rows of 5", 6, 5},
+    {"all other rows of 5", LAST_ROW, 5},
 };
 
 /* A total in each row in turn, in each spread turned over all rows, and in random spreads. */
 static void close_everywhere(ref_u128 total, int64_t answer, const char *digits, const char *what)
 {
-    for (uint64_t last = 0; last < BBP_ROWS; last++) {
+    for (uint64_t last = 0; last < ROWS; last++) {
         put_spread(&in_one_row, last, total);
         expect_closing(answer, digits, what, in_one_row.what);
         for (size_t i = 0; i < sizeof spreads / sizeof spreads[0]; i++) {
@@ -178,7 +178,17 @@ static void compare_vector(const struct closing_vector *vector)
 #define FS_30 "FFFFFFFFFFFFFFFFFFFFFFFFFFFFFF"
 #define EIGHTS SUM(UINT64_C(0x8888888888888888), UINT64_C(0x8888888888888888))
 
-/* Full ledgers: the marked closings of document 01 at p = 1, and others. */
+/*
+ * Full ledgers: the marked closings of document 01 at p = 1, their like in a
+ * check run, and others. A run has at p = 1 and at p = 4 so many added terms (a)
+ * and subtracted ones (b).
+ */
+#ifdef CHECK_RUN
+enum { A_OF_1 = 33, B_OF_1 = 99, A_OF_4 = 36, B_OF_4 = 108 };
+#else
+enum { A_OF_1 = 49, B_OF_1 = 49, A_OF_4 = 51, B_OF_4 = 54 };
+#endif
+
 static const struct {
     const char *what;
     uint64_t p;
@@ -187,23 +197,23 @@ static const struct {
     const char *digits;
 } closings[] = {
     {"total 0", 1, 0, -9, ""},
-    {"total 49", 1, 49, -9, ""},
-    {"total 50", 1, 50, 30, ZEROS_30},
-    {"total 2^128 - 51", 1, SUM(UINT64_MAX, UINT64_MAX - 50), 30, FS_30},
-    {"total 2^128 - 50", 1, SUM(UINT64_MAX, UINT64_MAX - 49), -9, ""},
+    {"total b", 1, B_OF_1, -9, ""},
+    {"total b + 1", 1, B_OF_1 + 1, 30, ZEROS_30},
+    {"total 2^128 - a - 2", 1, SUM(UINT64_MAX, UINT64_MAX - A_OF_1 - 1), 30, FS_30},
+    {"total 2^128 - a - 1", 1, SUM(UINT64_MAX, UINT64_MAX - A_OF_1), -9, ""},
     {"total 2^128 - 7", 1, SUM(UINT64_MAX, UINT64_MAX - 6), -9, ""},
     {"total 2^128 - 1", 1, SUM(UINT64_MAX, UINT64_MAX), -9, ""},
     {"total 2^127", 1, SUM(UINT64_C(1) << 63, 0), -9, ""},
     {"total 2^124", 1, SUM(UINT64_C(1) << 60, 0), -9, ""},
     {"total 2^124 + 2^120", 1, SUM((UINT64_C(1) << 60) + (UINT64_C(1) << 56), 0), 1, "1"},
-    {"total 54", 4, 54, -9, ""},
-    {"total 55", 4, 55, 30, ZEROS_30},
-    {"total 2^128 - 53", 4, SUM(UINT64_MAX, UINT64_MAX - 52), 30, FS_30},
-    {"total 2^128 - 52", 4, SUM(UINT64_MAX, UINT64_MAX - 51), -9, ""},
+    {"total b", 4, B_OF_4, -9, ""},
+    {"total b + 1", 4, B_OF_4 + 1, 30, ZEROS_30},
+    {"total 2^128 - a - 2", 4, SUM(UINT64_MAX, UINT64_MAX - A_OF_4 - 1), 30, FS_30},
+    {"total 2^128 - a - 1", 4, SUM(UINT64_MAX, UINT64_MAX - A_OF_4), -9, ""},
     {"total 2^128 - 7", 1000000, SUM(UINT64_MAX, UINT64_MAX - 6), -9, ""},
     {"total 888..", 1000000, EIGHTS, 26, "88888888888888888888888888"},
-    {"total 888..", BBP_MAX_POSITION - 1, EIGHTS, 16, "8888888888888888"},
-    {"total 888..", BBP_MAX_POSITION, EIGHTS, 16, "8888888888888888"},
+    {"total 888..", LAST_POSITION - 1, EIGHTS, 16, "8888888888888888"},
+    {"total 888..", LAST_POSITION, EIGHTS, 16, "8888888888888888"},
 };
 
 static void try_closings(void)
@@ -226,15 +236,16 @@ static void every_edge(void)
     for (uint64_t p = 1; p <= 7; p++) {
         full_ledger(p, any_blocks());
         for (uint64_t digit = 0; digit < 16; digit += 5)
-            for (uint64_t step = 0; step < 200; step++)
-                close_total(((ref_u128)digit << 124) + step - 100);
+            for (uint64_t step = 0; step < 300; step++)
+                close_total(((ref_u128)digit << 124) + step - 150);
     }
 }
 
-/* A full ledger with total 50, and one byte of it changed. */
-#define FIFTY(c, at, value) {BBP_LEDGER_SIZE, 1, c, 1, {{BBP_ROW_SUM_AT(0), 8, 50}, {at, 1, value}}}
-#define WHOLE {BBP_LEDGER_SIZE, 1, 1, 1, {{BBP_ROW_SUM_AT(0), 8, 50}}}
-#define FRESH(p, c) {BBP_LEDGER_SIZE, p, c, 0, UNPATCHED}
+/* A full ledger whose total settles thirty digits, in so many bytes, and one with one byte changed. */
+enum { SETTLED = 100 };
+#define WHOLE(len) {len, 1, 1, 1, {{SUM_AT(0), 8, SETTLED}}}
+#define CHANGED(c, at, value) {LEDGER_SIZE, 1, c, 1, {{SUM_AT(0), 8, SETTLED}, {at, 1, value}}}
+#define FRESH(p, c) {LEDGER_SIZE, p, c, 0, UNPATCHED}
 
 static const struct {
     const char *what;
@@ -242,35 +253,37 @@ static const struct {
     struct ledger_form ledger;
     size_t digits_len;
 } cases[] = {
-    {"ledger of 255 bytes", -1, {255, 1, 1, 1, {{BBP_ROW_SUM_AT(0), 8, 50}}}, 32},
-    {"ledger of 256 bytes", -1, {256, 1, 1, 1, {{BBP_ROW_SUM_AT(0), 8, 50}}}, 32},
-    {"ledger of 351 bytes", -1, {351, 1, 1, 1, {{BBP_ROW_SUM_AT(0), 8, 50}}}, 32},
-    {"ledger of 353 bytes", -1, {353, 1, 1, 1, {{BBP_ROW_SUM_AT(0), 8, 50}}}, 32},
+    {"ledger of 255 bytes", -1, WHOLE(255), 32},
+    {"ledger of 256 bytes", -1, WHOLE(256), 32},
+    {"ledger of a byte less", -1, WHOLE(LEDGER_SIZE - 1), 32},
+    {"ledger of a byte more", -1, WHOLE(LEDGER_SIZE + 1), 32},
+    {"ledger of the other kind's size", -1, WHOLE(OTHER_LEDGER_SIZE), 32},
     {"fresh ledger of 256 bytes, as version 1.0.0 had it", -1, {256, 1, 1, 0, UNPATCHED}, 32},
-    {"ledger of 351 bytes, not marked", -1, {351, 1, 1, 0, UNPATCHED}, 32},
-    {"digits of 31 bytes", -1, WHOLE, 31},
-    {"digits of 33 bytes", -1, WHOLE, 33},
+    {"ledger of a byte less, not marked", -1, {LEDGER_SIZE - 1, 1, 1, 0, UNPATCHED}, 32},
+    {"digits of 31 bytes", -1, WHOLE(LEDGER_SIZE), 31},
+    {"digits of 33 bytes", -1, WHOLE(LEDGER_SIZE), 33},
     {"digits of 31 bytes, ledger of zeros", -1, FRESH(0, 0), 31},
-    {"ledger's p 0", -5, FIFTY(1, 0, 0), 32},
-    {"ledger's p 2^60 + 1", -5, FIFTY(1, 7, 16), 32},
-    {"ledger's C 0", -5, FIFTY(1, 8, 0), 32},
-    {"ledger's C 257", -5, FIFTY(1, 9, 1), 32},
-    {"reserved byte 10", -5, FIFTY(1, 10, 1), 32},
-    {"reserved byte 15", -5, FIFTY(1, 15, 128), 32},
-    {"mark at C", -5, FIFTY(1, BBP_ROW_MARKS_AT(0), 3), 32},
-    {"mark at C alone", -5, FIFTY(1, BBP_ROW_MARKS_AT(0), 2), 32},
-    {"row 6, mark at 255", -5, FIFTY(1, BBP_ROW_MARKS_AT(6) + 31, 128), 32},
+    {"ledger's p 0", -5, CHANGED(1, 0, 0), 32},
+    {"ledger's p one above the last", -5, FRESH(LAST_POSITION + 1, 1), 32},
+    {"ledger's p twice the last", -5, FRESH(2 * LAST_POSITION, 1), 32},
+    {"ledger's p above the last, all marked", -5, CHANGED(1, 7, LAST_POSITION >> 56), 32},
+    {"ledger's C 0", -5, CHANGED(1, 8, 0), 32},
+    {"ledger's C 257", -5, CHANGED(1, 9, 1), 32},
+    {"reserved byte 10", -5, CHANGED(1, 10, 1), 32},
+    {"reserved byte 15", -5, CHANGED(1, 15, 128), 32},
+    {"mark at C", -5, CHANGED(1, MARKS_AT(0), 3), 32},
+    {"mark at C alone", -5, CHANGED(1, MARKS_AT(0), 2), 32},
+    {"last row, mark at 255", -5, CHANGED(1, MARKS_AT(LAST_ROW) + 31, 128), 32},
     {"ledger of zeros", -5, FRESH(0, 0), 32},
     {"fresh ledger", -8, FRESH(1, 1), 32},
-    {"fresh ledger, p 2^60, C 256", -8, FRESH(BBP_MAX_POSITION, 256), 32},
-    {"not marked, but a sum in row 6", -8, {BBP_LEDGER_SIZE, 1, 1, 0, {{BBP_ROW_SUM_AT(6), 8, 50}}}, 32},
-    {"row 0 unmarked", -8, FIFTY(1, BBP_ROW_MARKS_AT(0), 0), 32},
-    {"row 6 unmarked", -8, FIFTY(1, BBP_ROW_MARKS_AT(6), 0), 32},
-    {"C 2, block 0 of each row marked", -8, FIFTY(1, 8, 2), 32},
-    {"C 256, block 0 of each row marked", -8,
-     {BBP_LEDGER_SIZE, 1, 1, 1, {{BBP_ROW_SUM_AT(0), 8, 50}, {8, 2, 256}}}, 32},
-    {"C 256, row 6, block 255 unmarked", -8, FIFTY(256, BBP_ROW_MARKS_AT(6) + 31, 127), 32},
-    {"C 256, all marked", 30, {BBP_LEDGER_SIZE, 1, 256, 1, {{BBP_ROW_SUM_AT(0), 8, 50}}}, 32},
+    {"fresh ledger, last p, C 256", -8, FRESH(LAST_POSITION, 256), 32},
+    {"not marked, but a sum in the last row", -8, {LEDGER_SIZE, 1, 1, 0, {{SUM_AT(LAST_ROW), 8, SETTLED}}}, 32},
+    {"row 0 unmarked", -8, CHANGED(1, MARKS_AT(0), 0), 32},
+    {"last row unmarked", -8, CHANGED(1, MARKS_AT(LAST_ROW), 0), 32},
+    {"C 2, block 0 of each row marked", -8, CHANGED(1, 8, 2), 32},
+    {"C 256, block 0 of each row marked", -8, {LEDGER_SIZE, 1, 1, 1, {{SUM_AT(0), 8, SETTLED}, {8, 2, 256}}}, 32},
+    {"C 256, last row, block 255 unmarked", -8, CHANGED(256, MARKS_AT(LAST_ROW) + 31, 127), 32},
+    {"C 256, all marked", 30, {LEDGER_SIZE, 1, 256, 1, {{SUM_AT(0), 8, SETTLED}}}, 32},
 };
 
 static void try_cases(void)
@@ -284,10 +297,10 @@ static void try_cases(void)
     }
 }
 
-static void fifty_at_1(void)
+static void settled_at_1(void)
 {
     full_ledger(1, any_blocks());
-    put_total(50);
+    put_total(SETTLED);
 }
 
 /* The full ledger of p = 1 and C = 1 with total 50 as version 1.0.0 kept it: the total at 16, marks from 32 on. */
@@ -305,17 +318,17 @@ static void ledger_of_version_1(void)
 static void null_and_huge_examples(void)
 {
     full_ledger(1, 1);
-    CHECK(bbp_close(NULL, 0, t.digits, 32) == -1, "an empty ledger");
-    CHECK(bbp_close(t.ledger, 352, NULL, 0) == -1, "no digits");
-    CHECK(bbp_close(t.ledger, 352, lend_huge(), huge_length(32)) == -1, "digits of 2^32 + 32 bytes");
-    CHECK(bbp_close(lend_huge(), huge_length(352), t.digits, 32) == -1, "a ledger of 2^32 + 352 bytes");
+    CHECK(CALL(close)(NULL, 0, t.digits, 32) == -1, "an empty ledger");
+    CHECK(CALL(close)(t.ledger, LEDGER_SIZE, NULL, 0) == -1, "no digits");
+    CHECK(CALL(close)(t.ledger, LEDGER_SIZE, lend_huge(), huge_length(32)) == -1, "digits of 2^32 + 32 bytes");
+    CHECK(CALL(close)(lend_huge(), huge_length(LEDGER_SIZE), t.digits, 32) == -1, "a ledger with 2^32 bytes more");
     expect_huge_kept();
 }
 
 /* Every ticket in turn is the only one that is not marked. */
 static void one_unmarked(uint64_t c)
 {
-    for (uint64_t row = 0; row < 7; row++)
+    for (uint64_t row = 0; row < ROWS; row++)
         for (uint64_t block = 0; block < c; block++) {
             full_ledger(any_position(), c);
             set_mark(t.ledger, row, block, 0);
@@ -328,7 +341,7 @@ int main(int argc, char **argv)
     static const struct suite suite = {prepare, damage, 13, compare};
     start("close", argc, argv);
     try_cases();
-    every_ledger_size(fifty_at_1, compare, &t.ledger_len, 30);
+    every_ledger_size(settled_at_1, compare, &t.ledger_len, 30);
     ledger_of_version_1();
     null_and_huge_examples();
     try_closings();

@@ -16,8 +16,9 @@ static struct {
 
 static void count_kind(void)
 {
-    uint64_t first = ref_block_first(tried.p, tried.c, tried.block), cut = ref_block_cut(tried.p, tried.c, tried.block);
-    uint64_t terms = ref_block_first(tried.p, tried.c, tried.block + 1) - first;
+    uint64_t first = ref_block_first(FORMULA, tried.p, tried.c, tried.block);
+    uint64_t cut = ref_block_cut(FORMULA, tried.p, tried.c, tried.block);
+    uint64_t terms = ref_block_first(FORMULA, tried.p, tried.c, tried.block + 1) - first;
     seen.empty += terms == 0;
     seen.one_term += terms == 1;
     seen.odd += terms > 1 && terms % 2 == 1;
@@ -46,8 +47,9 @@ static int64_t compare_with_whole(void)
     uint8_t found[96];
     const uint8_t *whole, *lower, *upper;
     any_bytes(found, sizeof found);
-    int64_t answer = call_with(bbp_work, 0, found, &whole);
-    int64_t of_lower = call_with(bbp_work_lower, 1, found, &lower), of_upper = call_with(bbp_work_upper, 2, found, &upper);
+    int64_t answer = call_with(CALL(work), 0, found, &whole);
+    int64_t of_lower = call_with(CALL(work_lower), 1, found, &lower);
+    int64_t of_upper = call_with(CALL(work_upper), 2, found, &upper);
     CHECK(of_lower == answer && of_upper == answer,
           "p %" PRIu64 " C %" PRIu64 " row %" PRIu64 " block %" PRIu64 " length %zu: answers %" PRId64 ", %" PRId64
           " of the lower half, %" PRId64 " of the upper", tried.p, tried.c, tried.row, tried.block, tried.sum_len, answer,
@@ -75,34 +77,41 @@ static ref_u128 term_by_term(uint64_t p, uint64_t row, uint64_t first, uint64_t 
 {
     ref_u128 sum = 0;
     for (uint64_t k = first; k < end; k++)
-        sum += sum_by(bbp_work, p, ref_term_count(p), row, k);
+        sum += sum_by(CALL(work), p, ref_term_count(FORMULA, p), row, k);
     return sum;
 }
 
 static void compare_with_terms(uint64_t p, uint64_t c, uint64_t row, uint64_t block)
 {
-    uint64_t first = ref_block_first(p, c, block), cut = ref_block_cut(p, c, block), end = ref_block_first(p, c, block + 1);
-    CHECK(sum_by(bbp_work_lower, p, c, row, block) == term_by_term(p, row, first, cut),
+    uint64_t first = ref_block_first(FORMULA, p, c, block), end = ref_block_first(FORMULA, p, c, block + 1);
+    uint64_t cut = ref_block_cut(FORMULA, p, c, block);
+    CHECK(sum_by(CALL(work_lower), p, c, row, block) == term_by_term(p, row, first, cut),
           "p %" PRIu64 " C %" PRIu64 " row %" PRIu64 ": terms %" PRIu64 " up to the cut", p, c, row, first);
-    CHECK(sum_by(bbp_work_upper, p, c, row, block) == term_by_term(p, row, cut, end),
+    CHECK(sum_by(CALL(work_upper), p, c, row, block) == term_by_term(p, row, cut, end),
           "p %" PRIu64 " C %" PRIu64 " row %" PRIu64 ": terms from the cut up to %" PRIu64, p, c, row, end);
 }
 
-/* Runs of at most 256 terms in a row. */
+/* Runs of at most 256 terms in a row: with so many, each can be a block by itself. */
+#ifdef CHECK_RUN
+enum { MOST_TERMS_AT = 224 };
+#else
+enum { MOST_TERMS_AT = 600 };
+#endif
+
 static void small_halves(void)
 {
-    static const uint64_t positions[] = {1, 2, 3, 4, 5, 17, 100, 600}, counts[] = {1, 2, 3, 5, 7, 14, 100, 256};
+    static const uint64_t positions[] = {1, 2, 3, 4, 5, 17, 100, MOST_TERMS_AT}, counts[] = {1, 2, 3, 5, 7, 14, 100, 256};
     for (int i = 0; i < 8; i++)
         for (int j = 0; j < 8; j++)
-            for (uint64_t row = 0; row < 7; row++)
+            for (uint64_t row = 0; row < ROWS; row++)
                 for (uint64_t block = 0; block < counts[j]; block += counts[j] < 20 ? 1 : 1 + below(20))
                     compare_with_terms(positions[i], counts[j], row, block);
 }
 
 /*
  * A small stack. A recursion by halves makes at most 58 cuts one inside the
- * other, at p = 2^60, C = 1. One whose depth grows with the number of terms has
- * no room here for some thousand of them.
+ * other, at the last p, C = 1, and in a check run 59. One whose depth grows with
+ * the number of terms has no room here for some thousand of them.
  */
 enum { STACK = 65536, FAR = 10000000 };
 
@@ -119,40 +128,40 @@ static uint8_t far_sums[2][16];
 
 static void *work_far_halves(void *unused)
 {
-    bbp_work_lower(FAR, 1, 3, 0, far_sums[0], 16);
-    bbp_work_upper(FAR, 1, 3, 0, far_sums[1], 16);
+    CALL(work_lower)(FAR, 1, 3, 0, far_sums[0], 16);
+    CALL(work_upper)(FAR, 1, 3, 0, far_sums[1], 16);
     return unused;
 }
 
-/* Two million terms in a half. */
+/* Two million terms in a half, in a check run five. */
 static void far_halves(void)
 {
     on_small_stack(work_far_halves);
-    CHECK((ref_u128)(ref_load_sum(far_sums[0]) + ref_load_sum(far_sums[1])) == sum_by(bbp_work, FAR, 1, 3, 0),
+    CHECK((ref_u128)(ref_load_sum(far_sums[0]) + ref_load_sum(far_sums[1])) == sum_by(CALL(work), FAR, 1, 3, 0),
           "the halves at p = 10^7 do not add up to the ticket");
 }
 
-static void *work_largest_lower(void *unused)
+static void *work_last_lower(void *unused)
 {
-    bbp_work_lower(BBP_MAX_POSITION, 1, 0, 0, far_sums[0], 16);
+    CALL(work_lower)(LAST_POSITION, 1, 0, 0, far_sums[0], 16);
     return unused;
 }
 
-static void *work_largest_upper(void *unused)
+static void *work_last_upper(void *unused)
 {
-    bbp_work_upper(BBP_MAX_POSITION, 1, 0, 0, far_sums[1], 16);
+    CALL(work_upper)(LAST_POSITION, 1, 0, 0, far_sums[1], 16);
     return unused;
 }
 
 /* The call does not come back. Of its greatest depth it lacks one cut at most when it comes to its first term, at once. */
-static void largest_lower(void)
+static void last_lower(void)
 {
-    on_small_stack(work_largest_lower);
+    on_small_stack(work_last_lower);
 }
 
-static void largest_upper(void)
+static void last_upper(void)
 {
-    on_small_stack(work_largest_upper);
+    on_small_stack(work_last_upper);
 }
 
 int main(int argc, char **argv)
@@ -162,7 +171,7 @@ int main(int argc, char **argv)
     require_kinds();
     small_halves();
     CHECK(comes_back(far_halves), "the halves at p = 10^7, C = 1 on a stack of %d bytes", STACK);
-    CHECK(still_working(largest_lower), "the lower half at p = 2^60, C = 1 on a stack of %d bytes", STACK);
-    CHECK(still_working(largest_upper), "the upper half at p = 2^60, C = 1 on a stack of %d bytes", STACK);
+    CHECK(still_working(last_lower), "the lower half at the last p, C = 1 on a stack of %d bytes", STACK);
+    CHECK(still_working(last_upper), "the upper half at the last p, C = 1 on a stack of %d bytes", STACK);
     return finish();
 }

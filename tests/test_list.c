@@ -1,8 +1,8 @@
 /*
  * Lists of posts of both kinds from an opening on, against a plain ledger: a
- * set of tickets and seven row sums, with no bytes of a ledger (document 01,
- * The ledger; document 02, slip 1). After each post the 352 bytes are compared
- * with what it holds.
+ * set of tickets and a sum for each row, with no bytes of a ledger (document 01,
+ * The ledger; document 02, slips 1 and 4). After each post the ledger's bytes are
+ * compared with what it holds.
  */
 #include "common.h"
 
@@ -11,18 +11,18 @@
 
 static struct {
     uint64_t p, c;
-    uint8_t taken[BBP_ROWS][256];
-    ref_u128 sums[BBP_ROWS];
+    uint8_t taken[ROWS][256];
+    ref_u128 sums[ROWS];
 } plain;
 
-static uint8_t ledger[BBP_LEDGER_SIZE];
+static uint8_t ledger[LEDGER_SIZE];
 
 static void plain_bytes(uint8_t *bytes)
 {
-    memset(bytes, 0, BBP_LEDGER_SIZE);
+    memset(bytes, 0, LEDGER_SIZE);
     put(bytes, 8, plain.p);
     put(bytes + 8, 2, plain.c);
-    for (uint64_t row = 0; row < BBP_ROWS; row++) {
+    for (uint64_t row = 0; row < ROWS; row++) {
         set_row_sum(bytes, row, plain.sums[row]);
         for (uint64_t block = 0; block < 256; block++)
             set_mark(bytes, row, block, plain.taken[row][block]);
@@ -31,7 +31,7 @@ static void plain_bytes(uint8_t *bytes)
 
 static void compare_bytes(const char *after)
 {
-    uint8_t bytes[BBP_LEDGER_SIZE];
+    uint8_t bytes[LEDGER_SIZE];
     plain_bytes(bytes);
     CHECK(memcmp(bytes, ledger, sizeof ledger) == 0, "the ledger is not the plain ledger after %s", after);
 }
@@ -53,12 +53,12 @@ static int plain_answer(uint64_t p, uint64_t c, uint64_t row, uint64_t block)
 static void post_one(void)
 {
     uint8_t sum[16];
-    uint64_t p = below(10) == 0 ? plain.p % 1000 + 1 : plain.p, c = plain.c, row = below(7), block = below(c);
+    uint64_t p = below(10) == 0 ? plain.p % 1000 + 1 : plain.p, c = plain.c, row = below(ROWS), block = below(c);
     any_bytes(sum, 16);
     if (below(10) == 0 && c < 256)
         c++;
     int wanted = plain_answer(p, c, row, block);
-    CHECK(bbp_post(ledger, sizeof ledger, p, c, row, block, sum, 16) == wanted,
+    CHECK(CALL(post)(ledger, sizeof ledger, p, c, row, block, sum, 16) == wanted,
           "post: the answer is not the plain ledger's");
     if (wanted == 0)
         take(row, block, sum);
@@ -68,11 +68,12 @@ static void post_one(void)
 static void post_out_of_table(void)
 {
     uint8_t sum[16] = {0};
-    CHECK(bbp_post(ledger, sizeof ledger, plain.p, plain.c, 7, 0, sum, 16) == -4, "row 7");
-    CHECK(bbp_post(ledger, sizeof ledger, plain.p, plain.c, 0, plain.c, sum, 16) == -4, "block C");
-    CHECK(bbp_post(ledger, sizeof ledger, 0, plain.c, 0, 0, sum, 16) == -2, "p = 0");
-    CHECK(bbp_post(ledger, sizeof ledger, plain.p, plain.c, 0, 0, sum, 15) == -1, "a sum of 15 bytes");
-    CHECK(bbp_post(ledger, 256, plain.p, plain.c, 0, 0, sum, 16) == -1, "a ledger of 256 bytes");
+    CHECK(CALL(post)(ledger, sizeof ledger, plain.p, plain.c, ROWS, 0, sum, 16) == -4, "row above the last");
+    CHECK(CALL(post)(ledger, sizeof ledger, plain.p, plain.c, 0, plain.c, sum, 16) == -4, "block C");
+    CHECK(CALL(post)(ledger, sizeof ledger, 0, plain.c, 0, 0, sum, 16) == -2, "p = 0");
+    CHECK(CALL(post)(ledger, sizeof ledger, LAST_POSITION + 1, plain.c, 0, 0, sum, 16) == -2, "p above the last");
+    CHECK(CALL(post)(ledger, sizeof ledger, plain.p, plain.c, 0, 0, sum, 15) == -1, "a sum of 15 bytes");
+    CHECK(CALL(post)(ledger, sizeof ledger - 1, plain.p, plain.c, 0, 0, sum, 16) == -1, "a ledger of a byte less");
     compare_bytes("posts out of the table");
 }
 
@@ -86,12 +87,12 @@ static int sheet_answer(uint64_t p, const uint8_t *list, size_t e)
 
 static void post_sheet(uint64_t chance)
 {
-    static uint8_t list[BBP_LIST_MAX], sheet[BBP_SHEET_MAX];
+    static uint8_t list[LIST_MAX], sheet[SHEET_MAX];
     uint64_t p = below(10) == 0 ? plain.p % 1000 + 1 : plain.p;
     size_t e = any_list(list, plain.c, chance);
     size_t len = any_sheet(sheet, p, plain.c, list, e);
     int wanted = sheet_answer(p, list, e);
-    CHECK(bbp_sheet_post(ledger, sizeof ledger, sheet, len) == wanted,
+    CHECK(CALL(sheet_post)(ledger, sizeof ledger, sheet, len) == wanted,
           "sheet post: the answer is not the plain ledger's");
     for (size_t i = 0; wanted == 0 && i < e; i++)
         take(list[2 * i + 1], list[2 * i], sheet + 16 + 4 * e + 16 * i);
@@ -104,7 +105,7 @@ static void one_list(void)
     plain.p = any_position();
     plain.c = any_blocks();
     any_bytes(ledger, sizeof ledger);
-    CHECK(bbp_open(plain.p, plain.c, ledger, sizeof ledger) == 0, "opening is refused");
+    CHECK(CALL(open)(plain.p, plain.c, ledger, sizeof ledger) == 0, "opening is refused");
     compare_bytes("opening");
     for (uint64_t posts = below(200); posts > 0; posts--)
         switch (below(8)) {

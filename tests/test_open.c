@@ -1,4 +1,4 @@
-/* bbp_open against the reference. */
+/* open against the reference. */
 #include "common.h"
 
 #include <inttypes.h>
@@ -16,7 +16,7 @@ static void prepare(void)
     any_bytes(t.ledger, sizeof t.ledger);
     t.p = any_position();
     t.c = any_blocks();
-    t.ledger_len = BBP_LEDGER_SIZE;
+    t.ledger_len = LEDGER_SIZE;
 }
 
 static int damage(int kind)
@@ -24,7 +24,7 @@ static int damage(int kind)
     switch (kind) {
     case 0: t.ledger_len = wrong_ledger_size(); return 1;
     case 1: t.ledger_len = 0; return 1;
-    case 2: t.ledger_len = 256; return 1;
+    case 2: t.ledger_len = OTHER_LEDGER_SIZE; return 1;
     case 3: t.p = bad_position(); return 2;
     default: t.c = bad_blocks(); return 2;
     }
@@ -32,11 +32,11 @@ static int damage(int kind)
 
 static int64_t compare(void)
 {
-    met(ref_open_refusals(t.p, t.c, t.ledger_len));
+    met(ref_open_refusals(FORMULA, t.p, t.c, t.ledger_len));
     uint8_t *wanted = copy_of(t.ledger, t.ledger_len);
-    int64_t wanted_answer = ref_open(t.p, t.c, wanted, t.ledger_len);
+    int64_t wanted_answer = ref_open(FORMULA, t.p, t.c, wanted, t.ledger_len);
     uint8_t *ledger = lend(0, t.ledger, t.ledger_len);
-    int64_t answer = bbp_open(t.p, t.c, ledger, t.ledger_len);
+    int64_t answer = CALL(open)(t.p, t.c, ledger, t.ledger_len);
     CHECK(answer == wanted_answer, "open p %" PRIu64 " C %" PRIu64 " length %zu: answer %" PRId64 ", not %" PRId64, t.p,
           t.c, t.ledger_len, answer, wanted_answer);
     expect(0, wanted, "open, the ledger");
@@ -60,20 +60,23 @@ static const struct {
     size_t ledger_len;
 } cases[] = {
     {"ledger of 256 bytes, as version 1.0.0 had it", -1, 1, 1, 256},
-    {"ledger of 351 bytes", -1, 1, 1, 351},
-    {"ledger of 353 bytes", -1, 1, 1, 353},
+    {"ledger of the other kind's size", -1, 1, 1, OTHER_LEDGER_SIZE},
+    {"ledger of a byte less", -1, 1, 1, LEDGER_SIZE - 1},
+    {"ledger of a byte more", -1, 1, 1, LEDGER_SIZE + 1},
     {"ledger of 256 bytes, p 0", -1, 0, 1, 256},
-    {"ledger of 351 bytes, p 0", -1, 0, 1, 351},
-    {"ledger of 353 bytes, C 257", -1, 1, 257, 353},
-    {"p 0", -2, 0, 1, BBP_LEDGER_SIZE},
-    {"p 2^60 + 1", -2, BBP_MAX_POSITION + 1, 1, BBP_LEDGER_SIZE},
-    {"p 2^64 - 1", -2, UINT64_MAX, 1, BBP_LEDGER_SIZE},
-    {"C 0", -2, 1, 0, BBP_LEDGER_SIZE},
-    {"C 257", -2, 1, 257, BBP_LEDGER_SIZE},
-    {"C 65,537", -2, 1, 65537, BBP_LEDGER_SIZE},
-    {"p 1, C 1", 0, 1, 1, BBP_LEDGER_SIZE},
-    {"p 1, C 3", 0, 1, 3, BBP_LEDGER_SIZE},
-    {"p 2^60, C 256", 0, BBP_MAX_POSITION, 256, BBP_LEDGER_SIZE},
+    {"ledger of a byte less, p 0", -1, 0, 1, LEDGER_SIZE - 1},
+    {"ledger of a byte more, C 257", -1, 1, 257, LEDGER_SIZE + 1},
+    {"ledger of the other kind's size, p twice the last", -1, 2 * LAST_POSITION, 1, OTHER_LEDGER_SIZE},
+    {"p 0", -2, 0, 1, LEDGER_SIZE},
+    {"p one above the last", -2, LAST_POSITION + 1, 1, LEDGER_SIZE},
+    {"p twice the last", -2, 2 * LAST_POSITION, 1, LEDGER_SIZE},
+    {"p 2^64 - 1", -2, UINT64_MAX, 1, LEDGER_SIZE},
+    {"C 0", -2, 1, 0, LEDGER_SIZE},
+    {"C 257", -2, 1, 257, LEDGER_SIZE},
+    {"C 65,537", -2, 1, 65537, LEDGER_SIZE},
+    {"p 1, C 1", 0, 1, 1, LEDGER_SIZE},
+    {"p 1, C 3", 0, 1, 3, LEDGER_SIZE},
+    {"last p, C 256", 0, LAST_POSITION, 256, LEDGER_SIZE},
 };
 
 static void try_cases(void)
@@ -89,9 +92,9 @@ static void try_cases(void)
 static void open_over_ledgers(void)
 {
     static const struct ledger_form before[] = {
-        {BBP_LEDGER_SIZE, 0, 0, 0, UNPATCHED},
-        {BBP_LEDGER_SIZE, 2, 3, 0, UNPATCHED},
-        {BBP_LEDGER_SIZE, BBP_MAX_POSITION, 256, 1, UNPATCHED},
+        {LEDGER_SIZE, 0, 0, 0, UNPATCHED},
+        {LEDGER_SIZE, 2, 3, 0, UNPATCHED},
+        {LEDGER_SIZE, LAST_POSITION, 256, 1, UNPATCHED},
     };
     for (int i = 0; i < 3; i++) {
         t.p = 2, t.c = 3, t.ledger_len = before[i].len;
@@ -103,18 +106,18 @@ static void open_over_ledgers(void)
 /* Opening over one sum that is not 0, each in turn: p, C and zeros are left. */
 static void open_over_each_sum(void)
 {
-    uint8_t fresh[BBP_LEDGER_SIZE] = {2, [8] = 3}, ledger[BBP_LEDGER_SIZE] = {0};
-    for (uint64_t row = 0; row < BBP_ROWS; row++) {
-        memset(ledger + BBP_ROW_SUM_AT(row), 0xFF, BBP_SUM_SIZE);
-        CHECK(bbp_open(2, 3, ledger, sizeof ledger) == 0, "opening over a sum of row %" PRIu64, row);
+    uint8_t fresh[LEDGER_SIZE] = {2, [8] = 3}, ledger[LEDGER_SIZE] = {0};
+    for (uint64_t row = 0; row < ROWS; row++) {
+        memset(ledger + SUM_AT(row), 0xFF, 16);
+        CHECK(CALL(open)(2, 3, ledger, sizeof ledger) == 0, "opening over a sum of row %" PRIu64, row);
         CHECK(memcmp(ledger, fresh, sizeof ledger) == 0, "opening over a sum of row %" PRIu64 " leaves a byte", row);
     }
 }
 
 static void null_and_huge_examples(void)
 {
-    CHECK(bbp_open(1, 1, NULL, 0) == -1, "an empty ledger");
-    CHECK(bbp_open(1, 1, lend_huge(), huge_length(BBP_LEDGER_SIZE)) == -1, "a ledger of 2^32 + 352 bytes");
+    CHECK(CALL(open)(1, 1, NULL, 0) == -1, "an empty ledger");
+    CHECK(CALL(open)(1, 1, lend_huge(), huge_length(LEDGER_SIZE)) == -1, "a ledger with 2^32 bytes more");
     expect_huge_kept();
 }
 

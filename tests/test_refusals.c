@@ -1,18 +1,19 @@
 /*
  * The small examples of document 01's refusal table, each put to every call
- * that it fits, and ledgers of the 256 bytes that slip 1 of document 02 turns
- * away. The answers stand here; no reference is asked.
+ * that it fits, and what slips 1 and 4 of document 02 turn away: ledgers of 256
+ * bytes or of the other kind's size, and what is past the kind's last row or
+ * position. The answers stand here; no reference is asked.
  */
 #include "common.h"
 
 #include <inttypes.h>
 #include <string.h>
 
-/* What a call is made with: a ledger, and up to two tickets of a run. */
+/* What calls are made with: a ledger, and up to two tickets of a run. `calls` are those that the example fits. */
 struct example {
     int number;
     const char *words;
-    int64_t (*call)(const struct example *example);
+    unsigned calls;
     struct ledger_form ledger;
     uint64_t p, c;
     size_t e;
@@ -38,29 +39,29 @@ static int64_t call_working(work_call *call, const struct example *x)
 
 static int64_t call_work(const struct example *x)
 {
-    return call_working(bbp_work, x);
+    return call_working(CALL(work), x);
 }
 
 static int64_t call_work_lower(const struct example *x)
 {
-    return call_working(bbp_work_lower, x);
+    return call_working(CALL(work_lower), x);
 }
 
 static int64_t call_work_upper(const struct example *x)
 {
-    return call_working(bbp_work_upper, x);
+    return call_working(CALL(work_upper), x);
 }
 
 static int64_t call_open(const struct example *x)
 {
-    return bbp_open(x->p, x->c, lend(0, ledger, x->ledger.len), x->ledger.len);
+    return CALL(open)(x->p, x->c, lend(0, ledger, x->ledger.len), x->ledger.len);
 }
 
 static int64_t call_post(const struct example *x)
 {
     uint8_t sum[16] = {0}, *at = lend(0, ledger, x->ledger.len);
-    int64_t answer = bbp_post(at, x->ledger.len, x->p, x->c, x->pairs[0] / 256, x->pairs[0] % 256,
-                              lend_input(1, sum, 16), 16);
+    int64_t answer = CALL(post)(at, x->ledger.len, x->p, x->c, x->pairs[0] / 256, x->pairs[0] % 256,
+                                lend_input(1, sum, 16), 16);
     memcpy(ledger, at, x->ledger.len);
     return answer;
 }
@@ -70,21 +71,21 @@ static int64_t call_write(const struct example *x)
     uint8_t list[4], sheet[56] = {0};
     put(list, 2, x->pairs[0]);
     put(list + 2, 2, x->pairs[1]);
-    return bbp_sheet_write(x->p, x->c, lend_input(0, list, 2 * x->e), 2 * x->e, lend(1, sheet, 56), 56);
+    return CALL(sheet_write)(x->p, x->c, lend_input(0, list, 2 * x->e), 2 * x->e, lend(1, sheet, 56), 56);
 }
 
 static int64_t call_read(const struct example *x)
 {
     uint8_t sheet[56], list[4] = {0}, sums[32] = {0};
     size_t len = put_sheet(sheet, x);
-    return bbp_sheet_read(lend_input(0, sheet, len), len, lend(1, list, 4), 4, lend(2, sums, 32), 32);
+    return CALL(sheet_read)(lend_input(0, sheet, len), len, lend(1, list, 4), 4, lend(2, sums, 32), 32);
 }
 
 static int64_t call_sheet_post(const struct example *x)
 {
     uint8_t sheet[56], *at = lend(0, ledger, x->ledger.len);
     size_t len = put_sheet(sheet, x);
-    int64_t answer = bbp_sheet_post(at, x->ledger.len, lend_input(1, sheet, len), len);
+    int64_t answer = CALL(sheet_post)(at, x->ledger.len, lend_input(1, sheet, len), len);
     memcpy(ledger, at, x->ledger.len);
     return answer;
 }
@@ -92,62 +93,61 @@ static int64_t call_sheet_post(const struct example *x)
 static int64_t call_close(const struct example *x)
 {
     uint8_t digits[32] = {0};
-    return bbp_close(lend_input(0, ledger, x->ledger.len), x->ledger.len, lend(1, digits, 32), 32);
+    return CALL(close)(lend_input(0, ledger, x->ledger.len), x->ledger.len, lend(1, digits, 32), 32);
 }
 
-#define FRESH {BBP_LEDGER_SIZE, 1, 1, 0, UNPATCHED}
-#define ZEROS {BBP_LEDGER_SIZE, 0, 0, 0, UNPATCHED}
-/* The sums of rows 0 and 6 are 2^127 each. */
-#define HALVES {BBP_LEDGER_SIZE, 1, 1, 1, {{BBP_ROW_SUM_AT(0) + 15, 1, 128}, {BBP_ROW_SUM_AT(6) + 15, 1, 128}}}
+/* Each call has its bit, by its place. */
+static const struct call {
+    const char *name;
+    int64_t (*make)(const struct example *x);
+} calls[] = {
+    {"work", call_work}, {"work_lower", call_work_lower}, {"work_upper", call_work_upper}, {"open", call_open},
+    {"post", call_post}, {"sheet_write", call_write}, {"sheet_read", call_read}, {"sheet_post", call_sheet_post},
+    {"close", call_close},
+};
+enum {
+    WORK = 7, OPEN = 8, POST = 16, WRITE = 32, READ = 64, SHEET_POST = 128, CLOSE = 256,
+    POSTS = POST | SHEET_POST, SHEETS = WRITE | READ | SHEET_POST, TICKET = WORK | POST | SHEETS
+};
+
+#define FRESH {LEDGER_SIZE, 1, 1, 0, UNPATCHED}
+#define FULL(len) {len, 1, 1, 1, UNPATCHED}
+#define ZEROS {LEDGER_SIZE, 0, 0, 0, UNPATCHED}
+/* The sums of the first row and the last are 2^127 each. */
+#define HALVES {LEDGER_SIZE, 1, 1, 1, {{SUM_AT(0) + 15, 1, 128}, {SUM_AT(LAST_ROW) + 15, 1, 128}}}
 
 static const struct example examples[] = {
-    {1, "closing 255 bytes", call_close, {255, 1, 1, 1, UNPATCHED}, 1, 1, 0, {0, 0}},
-    {1, "closing 351 bytes", call_close, {351, 1, 1, 1, UNPATCHED}, 1, 1, 0, {0, 0}},
-    {1, "closing 353 bytes", call_close, {353, 1, 1, 1, UNPATCHED}, 1, 1, 0, {0, 0}},
-    {1, "a ledger of 256 bytes", call_open, {256, 1, 1, 0, UNPATCHED}, 1, 1, 1, {0, 0}},
-    {1, "a ledger of 256 bytes", call_post, {256, 1, 1, 0, UNPATCHED}, 1, 1, 1, {0, 0}},
-    {1, "a ledger of 256 bytes", call_sheet_post, {256, 1, 1, 0, UNPATCHED}, 1, 1, 1, {0, 0}},
-    {1, "a ledger of 256 bytes", call_close, {256, 1, 1, 1, UNPATCHED}, 1, 1, 0, {0, 0}},
-    {2, "p = 0, C = 1", call_work, FRESH, 0, 1, 1, {0, 0}},
-    {2, "p = 0, C = 1", call_work_lower, FRESH, 0, 1, 1, {0, 0}},
-    {2, "p = 0, C = 1", call_work_upper, FRESH, 0, 1, 1, {0, 0}},
-    {2, "p = 0, C = 1", call_open, FRESH, 0, 1, 1, {0, 0}},
-    {2, "p = 0, C = 1", call_post, FRESH, 0, 1, 1, {0, 0}},
-    {2, "p = 0, C = 1", call_write, FRESH, 0, 1, 1, {0, 0}},
-    {2, "p = 0, C = 1", call_read, FRESH, 0, 1, 1, {0, 0}},
-    {2, "p = 0, C = 1", call_sheet_post, FRESH, 0, 1, 1, {0, 0}},
-    {3, "list 5, 5", call_write, FRESH, 1, 256, 2, {5, 5}},
-    {3, "contents 5, 5", call_read, FRESH, 1, 256, 2, {5, 5}},
-    {3, "contents 5, 5", call_sheet_post, {BBP_LEDGER_SIZE, 1, 256, 0, UNPATCHED}, 1, 256, 2, {5, 5}},
-    {4, "C = 1, block 1", call_work, FRESH, 1, 1, 1, {1, 0}},
-    {4, "C = 1, block 1", call_work_lower, FRESH, 1, 1, 1, {1, 0}},
-    {4, "C = 1, block 1", call_work_upper, FRESH, 1, 1, 1, {1, 0}},
-    {4, "C = 1, block 1", call_post, FRESH, 1, 1, 1, {1, 0}},
-    {4, "C = 1, block 1", call_write, FRESH, 1, 1, 1, {1, 0}},
-    {4, "C = 1, block 1", call_read, FRESH, 1, 1, 1, {1, 0}},
-    {4, "C = 1, block 1", call_sheet_post, FRESH, 1, 1, 1, {1, 0}},
-    {5, "ledger of zeros", call_post, ZEROS, 1, 1, 1, {0, 0}},
-    {5, "ledger of zeros", call_sheet_post, ZEROS, 1, 1, 1, {0, 0}},
-    {5, "ledger of zeros", call_close, ZEROS, 1, 1, 0, {0, 0}},
-    {6, "p = 2 on a ledger of 1", call_post, FRESH, 2, 1, 1, {0, 0}},
-    {6, "p = 2 on a ledger of 1", call_sheet_post, FRESH, 2, 1, 1, {0, 0}},
-    {7, "row 0, block 0 twice", call_post, FRESH, 1, 1, 1, {0, 0}},
-    {7, "row 0, block 0 twice", call_sheet_post, FRESH, 1, 1, 1, {0, 0}},
-    {8, "closing a fresh ledger", call_close, FRESH, 1, 1, 0, {0, 0}},
-    {9, "p = 1, all marked, total 0", call_close, {BBP_LEDGER_SIZE, 1, 1, 1, UNPATCHED}, 1, 1, 0, {0, 0}},
-    {9, "p = 1, all marked, total 0 of two sums", call_close, HALVES, 1, 1, 0, {0, 0}},
+    {1, "closing 255 bytes", CLOSE, FULL(255), 1, 1, 0, {0, 0}},
+    {1, "closing a byte less", CLOSE, FULL(LEDGER_SIZE - 1), 1, 1, 0, {0, 0}},
+    {1, "closing a byte more", CLOSE, FULL(LEDGER_SIZE + 1), 1, 1, 0, {0, 0}},
+    {1, "a fresh ledger of 256 bytes", OPEN | POSTS, {256, 1, 1, 0, UNPATCHED}, 1, 1, 1, {0, 0}},
+    {1, "a full ledger of 256 bytes", CLOSE, FULL(256), 1, 1, 0, {0, 0}},
+    {1, "a fresh ledger of the other kind's size", OPEN | POSTS, {OTHER_LEDGER_SIZE, 1, 1, 0, UNPATCHED}, 1, 1, 1, {0, 0}},
+    {1, "a full ledger of the other kind's size", CLOSE, FULL(OTHER_LEDGER_SIZE), 1, 1, 0, {0, 0}},
+    {2, "p = 0, C = 1", OPEN | TICKET, FRESH, 0, 1, 1, {0, 0}},
+    {2, "p above the last, C = 1", OPEN | TICKET, FRESH, LAST_POSITION + 1, 1, 1, {0, 0}},
+    {3, "list or contents 5, 5", SHEETS, {LEDGER_SIZE, 1, 256, 0, UNPATCHED}, 1, 256, 2, {5, 5}},
+    {4, "C = 1, block 1", TICKET, FRESH, 1, 1, 1, {1, 0}},
+    {4, "row above the last", TICKET, FRESH, 1, 1, 1, {PAIR(ROWS, 0), 0}},
+    {5, "ledger of zeros", POSTS | CLOSE, ZEROS, 1, 1, 1, {0, 0}},
+    {5, "ledger's p above the last", POSTS | CLOSE, {LEDGER_SIZE, LAST_POSITION + 1, 1, 1, UNPATCHED}, 1, 1, 1, {0, 0}},
+    {6, "p = 2 on a ledger of 1", POSTS, FRESH, 2, 1, 1, {0, 0}},
+    {7, "row 0, block 0 twice", POSTS, FRESH, 1, 1, 1, {0, 0}},
+    {8, "closing a fresh ledger", CLOSE, FRESH, 1, 1, 0, {0, 0}},
+    {9, "p = 1, all marked, total 0", CLOSE, FULL(LEDGER_SIZE), 1, 1, 0, {0, 0}},
+    {9, "p = 1, all marked, total 0 of two sums", CLOSE, HALVES, 1, 1, 0, {0, 0}},
 };
 
 /* The example's call is refused, and no byte of what was lent is changed. */
-static void try_example(const struct example *x)
+static void try_example(const struct example *x, const struct call *call)
 {
     for (int slot = 0; slot < SLOTS; slot++)
         lend(slot, NULL, 0);
     make_ledger(ledger, &x->ledger);
     if (x->number == 7)
-        CHECK(x->call(x) == 0, "%s: the first time", x->words);
-    int64_t answer = x->call(x);
-    CHECK(answer == -x->number, "%s: the answer is %" PRId64 " and not -%d", x->words, answer, x->number);
+        CHECK(call->make(x) == 0, "%s, %s: the first time", call->name, x->words);
+    int64_t answer = call->make(x);
+    CHECK(answer == -x->number, "%s, %s: the answer is %" PRId64 " and not -%d", call->name, x->words, answer, x->number);
     for (int slot = 0; slot < SLOTS; slot++)
         expect_kept(slot, x->words);
 }
@@ -156,6 +156,8 @@ int main(int argc, char **argv)
 {
     start("refusals", argc, argv);
     for (size_t i = 0; i < sizeof examples / sizeof examples[0]; i++)
-        try_example(&examples[i]);
+        for (size_t j = 0; j < sizeof calls / sizeof calls[0]; j++)
+            if (examples[i].calls >> j & 1)
+                try_example(&examples[i], &calls[j]);
     return finish();
 }

@@ -1,4 +1,4 @@
-/* bbp_sheet_read against the reference. */
+/* sheet_read against the reference. */
 #include "sheets.h"
 
 #include <inttypes.h>
@@ -47,13 +47,13 @@ static int64_t compare(void)
 {
     const uint8_t *bytes = t.sheet.bytes;
     size_t len = t.sheet.len;
-    met(ref_sheet_read_refusals(bytes, len, t.list_len, t.sums_len));
+    met(ref_sheet_read_refusals(FORMULA, bytes, len, t.list_len, t.sums_len));
     uint8_t *sheet_copy = copy_of(bytes, len);
     uint8_t *wanted_list = copy_of(t.list, t.list_len), *wanted_sums = copy_of(t.sums, t.sums_len);
-    int64_t wanted = ref_sheet_read(sheet_copy, len, wanted_list, t.list_len, wanted_sums, t.sums_len);
+    int64_t wanted = ref_sheet_read(FORMULA, sheet_copy, len, wanted_list, t.list_len, wanted_sums, t.sums_len);
     const uint8_t *sheet = lend_input(0, bytes, len);
     uint8_t *list = lend(1, t.list, t.list_len), *sums = lend(2, t.sums, t.sums_len);
-    int64_t answer = bbp_sheet_read(sheet, len, list, t.list_len, sums, t.sums_len);
+    int64_t answer = CALL(sheet_read)(sheet, len, list, t.list_len, sums, t.sums_len);
     CHECK(answer == wanted, "read a sheet of %zu with outputs of %zu and %zu: answer %" PRId64 ", not %" PRId64, len,
           t.list_len, t.sums_len, answer, wanted);
     expect_kept(0, "read, the sheet");
@@ -102,11 +102,11 @@ static const struct {
     {"e 2, sums of 31 bytes", -1, {1, 1, 2, 56, UNPATCHED}, 4, 31},
     {"e 2, list of 3 bytes, C 0", -1, {1, 0, 2, 56, {{16, 8, 0}}}, 3, 32},
     {"e 2, exact outputs", 2, {1, 1, 2, 56, UNPATCHED}, 4, 32},
-    {"e 7, list of 13 bytes", -1, {1, 1, 7, 156, UNPATCHED}, 13, 112},
-    {"e 7, sums of 111 bytes", -1, {1, 1, 7, 156, UNPATCHED}, 14, 111},
-    {"e 1,792, list of 3,583 bytes", -1, {1, 256, 1792, 35856, UNPATCHED}, 3583, 28672},
-    {"e 1,792, sums of 28,671 bytes", -1, {1, 256, 1792, 35856, UNPATCHED}, 3584, 28671},
-    {"e 1,792, list of 3,585 and sums of 28,673 bytes", 1792, {1, 256, 1792, 35856, UNPATCHED}, 3585, 28673},
+    {"C 1, all tickets, a byte less for the list", -1, {1, 1, ROWS, SHEET_SIZE(ROWS), UNPATCHED}, 2 * ROWS - 1, 16 * ROWS},
+    {"C 1, all tickets, a byte less for the sums", -1, {1, 1, ROWS, SHEET_SIZE(ROWS), UNPATCHED}, 2 * ROWS, 16 * ROWS - 1},
+    {"longest sheet, a byte less for the list", -1, {1, 256, TICKETS, SHEET_MAX, UNPATCHED}, LIST_MAX - 1, 16 * TICKETS},
+    {"longest sheet, a byte less for the sums", -1, {1, 256, TICKETS, SHEET_MAX, UNPATCHED}, LIST_MAX, 16 * TICKETS - 1},
+    {"longest sheet, a byte more for each", TICKETS, {1, 256, TICKETS, SHEET_MAX, UNPATCHED}, LIST_MAX + 1, 16 * TICKETS + 1},
     {"e 65,535, small outputs", -1, {1, 256, 0, 16, {{10, 2, 65535}}}, 4, 32},
     {"e 65,535, list of one byte less", -1, {1, 256, 0, 16, {{10, 2, 65535}}}, 131069, 1048560},
     {"e 65,535, sums of one byte less", -1, {1, 256, 0, 16, {{10, 2, 65535}}}, 131070, 1048559},
@@ -127,8 +127,8 @@ static void null_examples(void)
 {
     struct sheet_form none = {1, 1, 0, 16, UNPATCHED};
     make_sheet(&t.sheet, &none);
-    CHECK(bbp_sheet_read(t.sheet.bytes, 16, NULL, 0, NULL, 0) == 0, "a sheet of no ticket, no outputs");
-    CHECK(bbp_sheet_read(NULL, 0, NULL, 0, NULL, 0) == -1, "an empty sheet");
+    CHECK(CALL(sheet_read)(t.sheet.bytes, 16, NULL, 0, NULL, 0) == 0, "a sheet of no ticket, no outputs");
+    CHECK(CALL(sheet_read)(NULL, 0, NULL, 0, NULL, 0) == -1, "an empty sheet");
 }
 
 /* Outputs have no greatest size. */
@@ -136,20 +136,20 @@ static void huge_examples(void)
 {
     uint8_t list[4], sums[32], outputs[112];
     struct sheet_form two = {1, 1, 2, 56, UNPATCHED};
-    CHECK(bbp_sheet_read(lend_huge(), huge_length(16), outputs, 14, outputs + 14, 98) == -1, "a sheet of 2^32 + 16 bytes");
+    CHECK(CALL(sheet_read)(lend_huge(), huge_length(16), outputs, 14, outputs + 14, 98) == -1, "a sheet of 2^32 + 16 bytes");
     expect_huge_kept();
     make_sheet(&t.sheet, &two);
-    CHECK(ref_sheet_read(t.sheet.bytes, 56, list, 4, sums, 32) == 2, "the reference refuses a sheet");
-    CHECK(bbp_sheet_read(t.sheet.bytes, 56, lend_huge(), huge_length(3), outputs, 32) == 2, "a list of 2^32 + 3 bytes");
+    CHECK(ref_sheet_read(FORMULA, t.sheet.bytes, 56, list, 4, sums, 32) == 2, "the reference refuses a sheet");
+    CHECK(CALL(sheet_read)(t.sheet.bytes, 56, lend_huge(), huge_length(3), outputs, 32) == 2, "a list of 2^32 + 3 bytes");
     expect_huge(list, 4);
-    CHECK(bbp_sheet_read(t.sheet.bytes, 56, outputs, 4, lend_huge(), huge_length(31)) == 2, "sums of 2^32 + 31 bytes");
+    CHECK(CALL(sheet_read)(t.sheet.bytes, 56, outputs, 4, lend_huge(), huge_length(31)) == 2, "sums of 2^32 + 31 bytes");
     expect_huge(sums, 32);
 }
 
 static void every_count(void)
 {
-    for (size_t e = 0; e <= 1792; e++) {
-        struct sheet_form form = {any_position(), 256, e, BBP_SHEET_SIZE(e), UNPATCHED};
+    for (size_t e = 0; e <= TICKETS; e++) {
+        struct sheet_form form = {any_position(), 256, e, SHEET_SIZE(e), UNPATCHED};
         make_sheet(&t.sheet, &form);
         CHECK(read_into(0, 0) == (int64_t)e, "the first %zu tickets of C = 256", e);
     }
@@ -160,7 +160,7 @@ static void more_than_the_run_has(void)
 {
     for (uint64_t c = 1; c < 256; c++) {
         sheet_of_blocks(&t.sheet, c + 1, c);
-        CHECK(read_into(0, 0) == -4, "a sheet of 7 * %" PRIu64 " tickets for C = %" PRIu64, c + 1, c);
+        CHECK(read_into(0, 0) == -4, "a sheet of %" PRIu64 " blocks a row for C = %" PRIu64, c + 1, c);
     }
 }
 

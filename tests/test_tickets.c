@@ -4,11 +4,11 @@
 int main(int argc, char **argv)
 {
     start("tickets", argc, argv);
-    compare_sums("ticket", bbp_work, 200);
-    compare_sums("lower", bbp_work_lower, 200);
-    compare_sums("upper", bbp_work_upper, 200);
-    compare_sums("far", bbp_work, 2);
-    compare_sums("far-lower", bbp_work_lower, 0);
-    compare_sums("far-upper", bbp_work_upper, 0);
+    compare_sums("ticket", CALL(work), 100);
+    compare_sums("lower", CALL(work_lower), 100);
+    compare_sums("upper", CALL(work_upper), 100);
+    compare_sums("far", CALL(work), 0);
+    compare_sums("far-lower", CALL(work_lower), 0);
+    compare_sums("far-upper", CALL(work_upper), 0);
     return finish();
 }

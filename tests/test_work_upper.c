@@ -1,8 +1,8 @@
-/* bbp_work_upper against the reference. */
+/* work_upper against the reference. */
 #include "working.h"
 
 int main(int argc, char **argv)
 {
-    static const struct working call = {"work_upper", bbp_work_upper, ref_work_upper};
+    static const struct working call = {"work_upper", CALL(work_upper), ref_work_upper};
     return test_working(&call, argc, argv);
 }

@@ -30,12 +30,13 @@ static void bytes_of(const char *text, uint8_t *bytes)
     }
 }
 
-/* The next line that starts with the kind, or 0 at the end. */
+/* The next line of the kind, or 0 at the end. */
 static int next_line(FILE *file, const char *kind, char line[256])
 {
-    size_t length = strlen(kind);
+    char start[32];
+    int length = snprintf(start, sizeof start, LINE_PREFIX "%s ", kind);
     while (fgets(line, 256, file) != NULL)
-        if (strncmp(line, kind, length) == 0 && line[length] == ' ')
+        if (strncmp(line, start, (size_t)length) == 0)
             return 1;
     fclose(file);
     return 0;
@@ -56,7 +57,7 @@ int each_term(void (*use)(const struct term_vector *))
     int lines = 0;
     struct term_vector v;
     for (; next_line(file, "term", line); lines++) {
-        need(sscanf(line, "term %" SCNu64 " %" SCNu64 " %" SCNu64 " %" SCNu64 " %" SCNd64 " %c %32s", &v.p, &v.row, &v.k,
+        need(sscanf(line, "%*s %" SCNu64 " %" SCNu64 " %" SCNu64 " %" SCNu64 " %" SCNd64 " %c %32s", &v.p, &v.row, &v.k,
                     &v.divisor, &v.exponent, &sign, size), 7, line);
         v.added = sign == '+';
         v.size = hexadecimal(size);
@@ -72,7 +73,7 @@ int each_count(void (*use)(uint64_t p, uint64_t terms))
     int lines = 0;
     uint64_t p, terms;
     for (; next_line(file, "count", line); lines++) {
-        need(sscanf(line, "count %" SCNu64 " %" SCNu64, &p, &terms), 2, line);
+        need(sscanf(line, "%*s %" SCNu64 " %" SCNu64, &p, &terms), 2, line);
         use(p, terms);
     }
     return lines;
@@ -118,7 +119,7 @@ int each_closing(void (*use)(const struct closing_vector *))
     int lines = 0;
     struct closing_vector v;
     for (; next_line(file, "closing", line); lines++) {
-        need(sscanf(line, "closing %" SCNu64 " %32s %d %32s", &v.p, total, &v.answer, v.digits), 4, line);
+        need(sscanf(line, "%*s %" SCNu64 " %32s %d %32s", &v.p, total, &v.answer, v.digits), 4, line);
         v.total = hexadecimal(total);
         use(&v);
     }

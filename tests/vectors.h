@@ -23,9 +23,10 @@ struct closing_vector {
 };
 
 /*
- * Each gives the number of lines of its kind. The file is tests/vectors.txt
- * below the working directory. Blocks are of the kind "block", or of "lower-half"
- * and "upper-half".
+ * Each gives the number of lines of its kind, and of the kind of runs that is
+ * tried: "check-" stands before the words for check runs. The file is
+ * tests/vectors.txt below the working directory. Blocks are of the kind
+ * "block", or of "lower-half" and "upper-half".
  */
 int each_term(void (*use)(const struct term_vector *));
 int each_count(void (*use)(uint64_t p, uint64_t terms));

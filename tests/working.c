@@ -10,7 +10,7 @@ static void prepare(void)
     int far = below(16) == 0;
     tried.p = any_position_upto(far ? 300000 : 2000);
     tried.c = far ? 250 + below(7) : any_blocks();
-    tried.row = below(7);
+    tried.row = below(ROWS);
     tried.block = below(8) == 0 ? tried.c - 1 : below(tried.c);
     tried.sum_len = 16;
 }
@@ -22,8 +22,8 @@ static int damage(int kind)
     case 1: tried.sum_len = 0; return 1;
     case 2: tried.p = bad_position(); return 2;
     case 3: tried.c = bad_blocks(); return 2;
-    case 4: tried.row = 7; return 4;
-    case 5: tried.row = wide_number(below(7)); return 4;
+    case 4: tried.row = ROWS; return 4;
+    case 5: tried.row = wide_number(below(ROWS)); return 4;
     case 6: tried.block = tried.c; return 4;
     case 7: tried.block = wide_number(below(256)); return 4;
     default: tried.block = UINT64_MAX - below(2); return 4;
@@ -35,7 +35,7 @@ static int64_t (*compare_tried)(void);
 
 static int64_t compare(void)
 {
-    met(ref_work_refusals(tried.p, tried.c, tried.row, tried.block, tried.sum_len));
+    met(ref_work_refusals(FORMULA, tried.p, tried.c, tried.row, tried.block, tried.sum_len));
     return compare_tried();
 }
 
@@ -47,21 +47,31 @@ static void compare_ticket(uint64_t p, uint64_t c, uint64_t row, uint64_t block)
 
 /*
  * Every block of every row at the smallest positions: E at its corners, N = 1,
- * N = 7, empty blocks, blocks of one term and of two.
+ * N = 7, empty blocks, blocks of one term and of two. At p = 1 a row has 14
+ * terms, in a check run 33.
  */
 static void small_runs(void)
 {
-    static const uint64_t counts[] = {1, 3, 7, 14, 15, 255, 256};
+    static const uint64_t counts[] = {1, 3, 7, 14, 15, 33, 34, 255, 256};
     for (uint64_t p = 1; p <= 40; p++)
-        for (uint64_t row = 0; row < 7; row++)
-            for (int i = 0; i < 7; i++)
+        for (uint64_t row = 0; row < ROWS; row++)
+            for (size_t i = 0; i < sizeof counts / sizeof counts[0]; i++)
                 for (uint64_t block = 0; block < counts[i]; block += p < 4 || counts[i] < 20 ? 1 : 1 + below(40))
                     compare_ticket(p, counts[i], row, block);
 }
 
+/* Rows on both sides of the last of either kind. */
+static void every_row(void)
+{
+    for (uint64_t row = 0; row < 12; row++) {
+        tried = (struct arguments){1, 1, row, 0, 16};
+        CHECK(compare() == (row < ROWS ? 0 : -4), "row %" PRIu64, row);
+    }
+}
+
 static void far_tickets(void)
 {
-    for (uint64_t row = 0; row < 7; row++) {
+    for (uint64_t row = 0; row < ROWS; row++) {
         compare_ticket(1000000, 256, row, below(256));
         compare_ticket(1000000, 256, row, 255);
         compare_ticket(999999, 255, row, 0);
@@ -77,28 +87,29 @@ static const struct {
     {"sum of 15 bytes", -1, {1, 1, 0, 0, 15}},
     {"sum of 17 bytes", -1, {1, 1, 0, 0, 17}},
     {"sum of 15 bytes, p 0", -1, {0, 1, 0, 0, 15}},
-    {"sum of 17 bytes, row 7", -1, {1, 1, 7, 0, 17}},
+    {"sum of 17 bytes, row above the last", -1, {1, 1, ROWS, 0, 17}},
     {"p 0", -2, {0, 1, 0, 0, 16}},
-    {"p 2^60 + 1", -2, {BBP_MAX_POSITION + 1, 1, 0, 0, 16}},
+    {"p one above the last", -2, {LAST_POSITION + 1, 1, 0, 0, 16}},
+    {"p twice the last", -2, {2 * LAST_POSITION, 1, 0, 0, 16}},
     {"p 2^64 - 1", -2, {UINT64_MAX, 1, 0, 0, 16}},
     {"C 0", -2, {1, 0, 0, 0, 16}},
     {"C 257", -2, {1, 257, 0, 0, 16}},
     {"C 65,537", -2, {1, 65537, 0, 0, 16}},
-    {"p 0, row 7", -2, {0, 1, 7, 0, 16}},
+    {"p 0, row above the last", -2, {0, 1, ROWS, 0, 16}},
     {"C 257, block 257", -2, {1, 257, 0, 257, 16}},
     {"C 1, block 1", -4, {1, 1, 0, 1, 16}},
-    {"C 256, block 256", -4, {1, 256, 6, 256, 16}},
-    {"row 7", -4, {1, 1, 7, 0, 16}},
+    {"C 256, block 256", -4, {1, 256, LAST_ROW, 256, 16}},
+    {"row above the last", -4, {1, 1, ROWS, 0, 16}},
     {"row 256", -4, {1, 1, 256, 0, 16}},
     {"row 2^64 - 1", -4, {1, 1, UINT64_MAX, 0, 16}},
     {"block 2^32", -4, {1, 1, 0, UINT64_C(1) << 32, 16}},
-    {"p 2^60, row 7", -4, {BBP_MAX_POSITION, 256, 7, 0, 16}},
-    {"p 2^60, row 7, block 255", -4, {BBP_MAX_POSITION, 256, 7, 255, 16}},
-    {"p 2^60, block 256", -4, {BBP_MAX_POSITION, 256, 0, 256, 16}},
-    {"p 2^60, row 6, block 256", -4, {BBP_MAX_POSITION, 256, 6, 256, 16}},
+    {"last p, row above the last", -4, {LAST_POSITION, 256, ROWS, 0, 16}},
+    {"last p, row above the last, block 255", -4, {LAST_POSITION, 256, ROWS, 255, 16}},
+    {"last p, block 256", -4, {LAST_POSITION, 256, 0, 256, 16}},
+    {"last p, last row, block 256", -4, {LAST_POSITION, 256, LAST_ROW, 256, 16}},
     {"p 1, C 1, row 0", 0, {1, 1, 0, 0, 16}},
-    {"p 2, C 1, row 6", 0, {2, 1, 6, 0, 16}},
-    {"p 1, C 256, row 6, block 255", 0, {1, 256, 6, 255, 16}},
+    {"p 2, C 1, last row", 0, {2, 1, LAST_ROW, 0, 16}},
+    {"p 1, C 256, last row, block 255", 0, {1, 256, LAST_ROW, 255, 16}},
 };
 
 static void try_cases(void)
@@ -114,6 +125,7 @@ void try_tickets(int64_t (*compare_case)(void))
     static const struct suite suite = {prepare, damage, 9, compare};
     compare_tried = compare_case;
     try_cases();
+    every_row();
     small_runs();
     far_tickets();
     run_suite(&suite);
@@ -129,7 +141,7 @@ static int64_t compare_with_reference(void)
     uint8_t found[96];
     any_bytes(found, sizeof found);
     uint8_t *wanted = copy_of(found, tried.sum_len);
-    int64_t wanted_answer = tested.reference(tried.p, tried.c, tried.row, tried.block, wanted, tried.sum_len);
+    int64_t wanted_answer = tested.reference(FORMULA, tried.p, tried.c, tried.row, tried.block, wanted, tried.sum_len);
     uint8_t *sum = lend(0, found, tried.sum_len);
     int64_t answer = tested.engine(tried.p, tried.c, tried.row, tried.block, sum, tried.sum_len);
     CHECK(answer == wanted_answer,
@@ -147,15 +159,10 @@ static void null_and_huge_examples(void)
     expect_huge_kept();
 }
 
-/*
- * At p = 2^60 a block of C = 256 has 1.8 * 10^15 terms: years of work. Block 39
- * ends at 40 * K / 256, and 40 * K, of 65 bits, has 544 in its lower 64: an
- * engine that cuts it there finds the block empty and comes back at once.
- */
-static void work_at_the_largest_position(void)
+static void work_at_the_last_position(void)
 {
     uint8_t sum[16];
-    tested.engine(BBP_MAX_POSITION, 256, 0, 39, sum, 16);
+    tested.engine(LAST_POSITION, 256, 0, WRAPPING_BLOCK, sum, 16);
 }
 
 int test_working(const struct working *call, int argc, char **argv)
@@ -164,6 +171,6 @@ int test_working(const struct working *call, int argc, char **argv)
     start(call->name, argc, argv);
     null_and_huge_examples();
     try_tickets(compare_with_reference);
-    CHECK(still_working(work_at_the_largest_position), "block 39 of C = 256 at p = 2^60 comes back at once");
+    CHECK(still_working(work_at_the_last_position), "block %d of C = 256 at the last p comes back at once", WRAPPING_BLOCK);
     return finish();
 }

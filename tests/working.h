@@ -20,7 +20,8 @@ void try_tickets(int64_t (*compare)(void));
 /* The test program of one call, against the reference's. */
 struct working {
     const char *name;
-    work_call *engine, *reference;
+    work_call *engine;
+    ref_work_call *reference;
 };
 int test_working(const struct working *call, int argc, char **argv);
 

@@ -1,7 +1,8 @@
 /*
- * farm POSITION BLOCKS DIRECTORY [PROCESSES] - works a long run with one
- * process for each ticket, PROCESSES of them at a time (by default one for
- * each core), and prints the closing line.
+ * farm [--check] POSITION BLOCKS DIRECTORY [PROCESSES] - works a long run, with
+ * --check a check run, with one process for each ticket, PROCESSES of them at a
+ * time (by default one for each core), and prints the closing line, that of a
+ * check run with the word `check` before it.
  *
  * A finished ticket is kept as a sheet of its own in the directory, with a
  * checksum of the sheet in a file beside it. A run that was stopped goes on
@@ -12,6 +13,9 @@
  * Before it is closed, the ledger is kept in the directory too, as
  * POSITION-BLOCKS.ledger. Where the closing looks odd, `acceptance --rows` shows
  * in it which row differs; without that row's sheets the farm works it again.
+ *
+ * A sheet does not name its formula, so the files of a check run have names of
+ * their own (1000-5-3-0.check.sheet): both kinds can share a directory.
  */
 #define _POSIX_C_SOURCE 200809L
 
@@ -25,6 +29,7 @@
 #include <sys/stat.h>
 #include <unistd.h>
 
+#include "kinds.h"
 #include "process.h"
 #include "program.h"
 #include "progress.h"
@@ -32,11 +37,17 @@
 enum { PATH_ROOM = 4096, SHEET_LEN = BBP_SHEET_SIZE(1), CHECKSUM_LEN = 8 };
 
 static struct {
+    const struct kind *kind;
     uint64_t p, c;
     const char *directory;
     uint64_t processes, running, done;
     struct progress bar;
 } farm;
+
+static void farm_finished(const char *call, int64_t answer)
+{
+    finished_by(farm.kind->word, call, answer);
+}
 
 /* The names of a ticket's two files. */
 struct kept {
@@ -55,8 +66,8 @@ static void need_room(int len)
 static struct kept kept_files(uint64_t row, uint64_t block)
 {
     struct kept kept;
-    int len = snprintf(kept.sheet, PATH_ROOM, "%s/%" PRIu64 "-%" PRIu64 "-%" PRIu64 "-%" PRIu64 ".sheet", farm.directory,
-                       farm.p, farm.c, row, block);
+    int len = snprintf(kept.sheet, PATH_ROOM, "%s/%" PRIu64 "-%" PRIu64 "-%" PRIu64 "-%" PRIu64 "%s.sheet", farm.directory,
+                       farm.p, farm.c, row, block, farm.kind->suffix);
     need_room(len);
     need_room(snprintf(kept.checksum, PATH_ROOM, "%s.fnv", kept.sheet));
     return kept;
@@ -76,8 +87,8 @@ static void checksum_of(const uint8_t *sheet, uint8_t *checksum)
 static int is_sheet_of(const uint8_t *sheet, uint64_t row, uint64_t block)
 {
     uint8_t list[2], sum[BBP_SUM_SIZE];
-    return bbp_sheet_read(sheet, SHEET_LEN, list, sizeof list, sum, sizeof sum) == 1 && number_at(sheet, 8) == farm.p &&
-           number_at(sheet + 8, 2) == farm.c && number_at(list, 2) == BBP_PAIR(row, block);
+    return farm.kind->sheet_read(sheet, SHEET_LEN, list, sizeof list, sum, sizeof sum) == 1 &&
+           number_at(sheet, 8) == farm.p && number_at(sheet + 8, 2) == farm.c && number_at(list, 2) == BBP_PAIR(row, block);
 }
 
 /* Whether there is a file of exactly that length; its bytes. */
@@ -122,7 +133,7 @@ static void work_ticket(uint64_t row, uint64_t block)
 {
     uint8_t list[2] = {(uint8_t)block, (uint8_t)row}, sheet[SHEET_LEN], checksum[CHECKSUM_LEN];
     struct kept kept = kept_files(row, block);
-    finished("sheet write", bbp_sheet_write(farm.p, farm.c, list, sizeof list, sheet, sizeof sheet));
+    farm_finished("sheet write", farm.kind->sheet_write(farm.p, farm.c, list, sizeof list, sheet, sizeof sheet));
     checksum_of(sheet, checksum);
     keep(kept.sheet, sheet, sizeof sheet);
     keep(kept.checksum, checksum, sizeof checksum);
@@ -153,7 +164,7 @@ static uint64_t kept_tickets(void)
 {
     uint8_t sheet[SHEET_LEN];
     uint64_t kept = 0;
-    for (uint64_t row = 0; row < BBP_ROWS; row++)
+    for (uint64_t row = 0; row < farm.kind->rows; row++)
         for (uint64_t block = 0; block < farm.c; block++)
             kept += (uint64_t)load_sheet(row, block, sheet);
     return kept;
@@ -163,9 +174,9 @@ static uint64_t kept_tickets(void)
 static void work_missing(void)
 {
     uint8_t sheet[SHEET_LEN];
-    farm.bar = progress_start(BBP_ROWS * farm.c - kept_tickets());
+    farm.bar = progress_start(farm.kind->rows * farm.c - kept_tickets());
     for (uint64_t block = 0; block < farm.c; block++)
-        for (uint64_t row = 0; row < BBP_ROWS; row++)
+        for (uint64_t row = 0; row < farm.kind->rows; row++)
             if (!load_sheet(row, block, sheet))
                 start_ticket(row, block);
     while (farm.running > 0)
@@ -175,21 +186,22 @@ static void work_missing(void)
 static void post_all(uint8_t *ledger)
 {
     uint8_t sheet[SHEET_LEN];
-    for (uint64_t row = 0; row < BBP_ROWS; row++)
+    for (uint64_t row = 0; row < farm.kind->rows; row++)
         for (uint64_t block = 0; block < farm.c; block++) {
             if (!load_sheet(row, block, sheet)) {
                 fputs("a sheet is missing\n", stderr);
                 exit(1);
             }
-            finished("sheet post", bbp_sheet_post(ledger, BBP_LEDGER_SIZE, sheet, SHEET_LEN));
+            farm_finished("sheet post", farm.kind->sheet_post(ledger, farm.kind->ledger_size, sheet, SHEET_LEN));
         }
 }
 
 static void keep_ledger(const uint8_t *ledger)
 {
     char path[PATH_ROOM];
-    need_room(snprintf(path, PATH_ROOM, "%s/%" PRIu64 "-%" PRIu64 ".ledger", farm.directory, farm.p, farm.c));
-    keep(path, ledger, BBP_LEDGER_SIZE);
+    need_room(snprintf(path, PATH_ROOM, "%s/%" PRIu64 "-%" PRIu64 "%s.ledger", farm.directory, farm.p, farm.c,
+                       farm.kind->suffix));
+    keep(path, ledger, farm.kind->ledger_size);
 }
 
 static uint64_t cores(void)
@@ -200,10 +212,14 @@ static uint64_t cores(void)
 
 static void prepare(int argc, char **argv)
 {
+    int check = argc > 1 && strcmp(argv[1], "--check") == 0;
+    argc -= check;
+    argv += check;
     if (argc != 4 && argc != 5) {
-        fputs("usage: farm POSITION BLOCKS DIRECTORY [PROCESSES]\n", stderr);
+        fputs("usage: farm [--check] POSITION BLOCKS DIRECTORY [PROCESSES]\n", stderr);
         exit(2);
     }
+    farm.kind = &kinds[check ? CHECK : BELLARD];
     farm.p = number(argv[1]);
     farm.c = number(argv[2]);
     farm.directory = argv[3];
@@ -216,14 +232,14 @@ static void prepare(int argc, char **argv)
 
 int main(int argc, char **argv)
 {
-    uint8_t ledger[BBP_LEDGER_SIZE];
+    uint8_t ledger[BBP_LEDGER_SIZE], digits[BBP_DIGITS_SIZE];
     prepare(argc, argv);
-    finished("open", bbp_open(farm.p, farm.c, ledger, sizeof ledger));
+    farm_finished("open", farm.kind->open(farm.p, farm.c, ledger, farm.kind->ledger_size));
     if (mkdir(farm.directory, 0777) != 0 && errno != EEXIST)
         fail(farm.directory);
     work_missing();
     post_all(ledger);
     keep_ledger(ledger);
-    print_closing(farm.p, ledger);
+    print_closing(farm.kind, farm.p, ledger, digits);
     return 0;
 }

@@ -1,7 +1,11 @@
 #!/usr/bin/env python3
 """Writes vectors.txt: figures of documents 01 and 02 worked by Python's whole numbers.
 
-Method. A term is worked by its definition: N = mk + j, E = 4n + l - 10k + 128,
+The lines of Bellard's runs come first, then those of check runs (document 02,
+slip 4), by the same functions over another formula; their words start with
+"check-".
+
+Method. A term is worked by its definition: N = mk + j, E = 4n + l - step * k + 128,
 q = floor(2^E / N) mod 2^128 for E >= 0, else 0. While E is at most 10^6 the
 power 2^E is written out in full and divided. Above that it cannot be written
 out, and q = floor(2^128 * (2^(E-128) mod N) / N), which is the same number
@@ -13,24 +17,47 @@ A ticket's sum is the signed sum of its q, reduced modulo 2^128 at the end. So
 is that of a half, over the terms before floor((first + end) / 2) or from there.
 A closing compares two floor divisions for d = 32 down to 1, by whole numbers
 of any sign. The digits of pi that closings are compared with come from
-Machin's formula, not from Bellard's.
+Machin's formula, not from either of these.
 """
+import collections
 import random
 import sys
 
-ROWS = [(4, 1, -1, -1), (4, 3, -6, -1), (10, 1, 2, 1), (10, 3, 0, -1),
-        (10, 5, -4, -1), (10, 7, -4, -1), (10, 9, -6, 1)]
 M = 1 << 128
 WRITTEN_OUT = 10**6
 
 
-def terms_in_row(p):
-    return (4 * (p - 1) + 130) // 10 + 1
+def bellard_charges(K):
+    if K % 2 == 0:
+        return 7 * K // 2, 7 * K // 2
+    return 7 * (K - 1) // 2 + 2, 7 * (K - 1) // 2 + 5
 
 
-def numbers(p, row, k):
-    m, j, l, s = ROWS[row]
-    return m * k + j, 4 * (p - 1) + l - 10 * k + 128, s if k % 2 == 0 else -s
+def check_charges(K):
+    return K, 3 * K
+
+
+# A kind of runs. The rows are (m, j, l, sign); `charges` gives a and b from K. At p = 1, C = 256 block `one_term` has one
+# term; at the last position and C = 256 block `wrapping` ends past 2^64 / 256.
+Formula = collections.namedtuple("Formula", "title prefix last step alternates charges one_term wrapping rows")
+BELLARD = Formula("", "", 1 << 60, 10, True, bellard_charges, 18, 39,
+                  [(4, 1, -1, -1), (4, 3, -6, -1), (10, 1, 2, 1), (10, 3, 0, -1),
+                   (10, 5, -4, -1), (10, 7, -4, -1), (10, 9, -6, 1)])
+CHECK = Formula("Check runs. ", "check-", 1 << 59, 4, False, check_charges, 7, 31,
+                [(8, 1, 2, 1), (2, 1, -1, -1), (8, 5, 0, -1), (4, 3, -1, -1)])
+
+
+def row_numbers(f):
+    return range(len(f.rows))
+
+
+def terms_in_row(f, p):
+    return (4 * (p - 1) + 130) // f.step + 1
+
+
+def numbers(f, p, row, k):
+    m, j, l, s = f.rows[row]
+    return m * k + j, 4 * (p - 1) + l - f.step * k + 128, -s if f.alternates and k % 2 == 1 else s
 
 
 def quotient(E, N):
@@ -44,42 +71,39 @@ def quotient(E, N):
     return by_residue
 
 
-def size(p, row, k):
-    N, E, _ = numbers(p, row, k)
+def size(f, p, row, k):
+    N, E, _ = numbers(f, p, row, k)
     return quotient(E, N)
 
 
-def block(p, c, i):
-    K = terms_in_row(p)
+def block(f, p, c, i):
+    K = terms_in_row(f, p)
     return i * K // c, (i + 1) * K // c
 
 
-def halves(p, c, i):
-    first, end = block(p, c, i)
+def halves(f, p, c, i):
+    first, end = block(f, p, c, i)
     cut = (first + end) // 2
     return (first, cut), (cut, end)
 
 
-def range_sum(p, row, first, end):
+def range_sum(f, p, row, first, end):
     total = 0
     for k in range(first, end):
-        total += numbers(p, row, k)[2] * size(p, row, k)
+        total += numbers(f, p, row, k)[2] * size(f, p, row, k)
     return total % M
 
 
-def ticket(p, c, row, i):
-    return range_sum(p, row, *block(p, c, i))
+def ticket(f, p, c, row, i):
+    return range_sum(f, p, row, *block(f, p, c, i))
 
 
-def charges(p):
-    K = terms_in_row(p)
-    if K % 2 == 0:
-        return 7 * K // 2, 7 * K // 2
-    return 7 * (K - 1) // 2 + 2, 7 * (K - 1) // 2 + 5
+def charges(f, p):
+    return f.charges(terms_in_row(f, p))
 
 
-def closing(p, total):
-    a, b = charges(p)
+def closing(f, p, total):
+    a, b = charges(f, p)
     low, high = total - b - 1, total + a + 1
     for d in range(32, 0, -1):
         unit = 1 << (128 - 4 * d)
@@ -104,94 +128,146 @@ def pi_digits(count):
     return "%0*X" % (count, (pi - 3 * one) >> (4 * guard))
 
 
-def term_line(p, row, k, note):
-    N, E, s = numbers(p, row, k)
-    print("term %d %d %d %d %d %s %032x  # %s" %
-          (p, row, k, N, E, "+" if s > 0 else "-", size(p, row, k), note))
+# Lines. The words of the kinds in a title are written with {}, where the prefix belongs.
+
+def title(f, text):
+    print("\n# " + f.title + text.format(*[f.prefix] * text.count("{}")))
 
 
-def sum_line(kind, p, c, row, i, s):
-    print("%s %d %d %d %d %032x %s" %
-          (kind, p, c, row, i, s, s.to_bytes(16, "little").hex()))
+def last_power(f):
+    return "2^%d" % (f.last.bit_length() - 1)
 
 
-def ticket_line(p, c, row, i, kind="ticket"):
-    sum_line(kind, p, c, row, i, ticket(p, c, row, i))
+def term_line(f, p, row, k, note):
+    N, E, s = numbers(f, p, row, k)
+    print("%sterm %d %d %d %d %d %s %032x  # %s" %
+          (f.prefix, p, row, k, N, E, "+" if s > 0 else "-", size(f, p, row, k), note))
 
 
-def half_lines(p, c, row, i, kinds=("lower", "upper")):
-    sums = [range_sum(p, row, *half) for half in halves(p, c, i)]
+def count_line(f, p):
+    print("%scount %d %d" % (f.prefix, p, terms_in_row(f, p)))
+
+
+def range_line(f, kind, p, c, i, terms):
+    print("%s%s %d %d %d %d %d" % ((f.prefix, kind, p, c, i) + terms))
+
+
+def block_line(f, p, c, i):
+    range_line(f, "block", p, c, i, block(f, p, c, i))
+
+
+def sum_line(f, kind, p, c, row, i, s):
+    print("%s%s %d %d %d %d %032x %s" %
+          (f.prefix, kind, p, c, row, i, s, s.to_bytes(16, "little").hex()))
+
+
+def ticket_line(f, p, c, row, i, kind="ticket"):
+    sum_line(f, kind, p, c, row, i, ticket(f, p, c, row, i))
+
+
+def half_lines(f, p, c, row, i, kinds=("lower", "upper")):
+    sums = [range_sum(f, p, row, *half) for half in halves(f, p, c, i)]
     for kind, s in zip(kinds, sums):
-        sum_line(kind, p, c, row, i, s)
+        sum_line(f, kind, p, c, row, i, s)
     return sum(sums) % M
 
 
-def closing_line(p, total):
-    d, digits = closing(p, total)
-    print("closing %d %032x %d %s" % (p, total, d, digits))
+def closing_line(f, p, total):
+    d, digits = closing(f, p, total)
+    print("%sclosing %d %032x %d %s" % (f.prefix, p, total, d, digits))
 
 
-def figures():
-    print("\n# Figures of document 01 on terms (starred and unstarred)")
+# Sections.
+
+def bellard_figures():
+    f = BELLARD
+    title(f, "Figures of document 01 on terms (starred and unstarred)")
     for p, row, k, want in [(1, 0, 0, 1 << 127), (1, 2, 0, 0),
                             (1, 3, 0, int("5" * 32, 16)),
                             (1, 4, 0, int("3" * 31, 16)),
                             (3, 4, 0, int("3" * 32, 16)),
                             (1, 2, 11, 9446), (1, 2, 12, 8), (1, 2, 13, 0),
                             (1, 0, 12, 2), (1, 0, 13, 0)]:
-        assert size(p, row, k) == want
-        term_line(p, row, k, "document 01, Marked figures")
-    print("\n# Terms in a row: count p K")
+        assert size(f, p, row, k) == want
+        term_line(f, p, row, k, "document 01, Marked figures")
+    title(f, "Terms in a row: {}count p K")
     for p, want in [(1, 14), (3, 14), (4, 15), (1 << 60, 461168601842738804)]:
-        assert terms_in_row(p) == want
-        print("count %d %d" % (p, want))
+        assert terms_in_row(f, p) == want
+        count_line(f, p)
     for p in (2, 5, 6, 7, 17, 100, 1000, 12345, 10**5, 10**6, 10**7, 10**8):
-        print("count %d %d" % (p, terms_in_row(p)))
-    print("\n# Blocks: block p C i first end (end not included)")
-    assert block(1, 256, 0) == (0, 0) and block(1, 256, 255) == (13, 14)
+        count_line(f, p)
+    title(f, "Blocks: {}block p C i first end (end not included)")
+    assert block(f, 1, 256, 0) == (0, 0) and block(f, 1, 256, 255) == (13, 14)
     for p, c, i in [(1, 256, 0), (1, 256, 1), (1, 256, 17), (1, 256, 18),
                     (1, 256, 19), (1, 256, 254), (1, 256, 255), (1, 1, 0),
                     (1, 14, 0), (1, 14, 13), (1, 13, 0), (1, 13, 12),
                     (1, 15, 0), (1, 15, 14)]:
-        print("block %d %d %d %d %d" % ((p, c, i) + block(p, c, i)))
+        block_line(f, p, c, i)
+    assert halves(f, 1, 256, 0) == ((0, 0), (0, 0)) and halves(f, 1, 256, 255) == ((13, 13), (13, 14))
+    assert halves(f, 1, 3, 2) == ((9, 11), (11, 14))
+    assert charges(f, 1) == (49, 49)
+    assert numbers(f, f.last, 3, (4 * (f.last - 1)) // 10)[0] == (1 << 62) - 1
 
 
-def corner_terms():
-    print("\n# Corner terms: term p row k N E sign q (q in hexadecimal, 128 bits)")
-    for p in (1, 2, 3, 17, 1 << 60):
-        term_line(p, 0, 0, "N = 1")
-        term_line(p, 2, 0, "N = 1")
-    for p in (1, 2, 3, 17, 1 << 60):
-        term_line(p, 1, 1, "N = 7")
-        term_line(p, 5, 0, "N = 7")
-    for E in (-10, -3, -2, -1, 0, 1, 2, 63, 64, 65, 126, 127, 128, 129, 130, 191, 192, 193):
-        for row in range(7):
-            found = [(p, k) for p in range(1, 400) for k in range(terms_in_row(p))
-                     if numbers(p, row, k)[1] == E]
+def check_figures():
+    f = CHECK
+    title(f, "The first terms: their signs do not alternate")
+    for row in row_numbers(f):
+        for k in range(4):
+            term_line(f, 1, row, k, "k = %d" % k)
+    assert size(f, 1, 0, 0) == 0 and size(f, 1, 1, 0) == 1 << 127
+    assert size(f, 1, 2, 0) == int("3" * 32, 16) and size(f, 1, 3, 0) == (1 << 127) // 3
+    title(f, "Terms in a row: {}count p K")
+    for p in (1, 2, 3, 4, 5, 6, 7, 17, 100, 1000, 12345, 10**5, 10**6, 10**7, 10**8, f.last - 1, f.last):
+        assert terms_in_row(f, p) == p + 32
+        count_line(f, p)
+    title(f, "Blocks: {}block p C i first end (end not included)")
+    assert block(f, 1, 256, 0) == (0, 0) and block(f, 1, 256, 7) == (0, 1) and block(f, 1, 256, 255) == (32, 33)
+    for c, places in [(256, (0, 1, 6, 7, 8, 15, 254, 255)), (1, (0,)), (33, (0, 32)), (32, (0, 30, 31)), (34, (0, 1, 33))]:
+        for i in places:
+            block_line(f, 1, c, i)
+    assert halves(f, 1, 256, 7) == ((0, 0), (0, 1)) and halves(f, 1, 3, 2) == ((22, 27), (27, 33))
+    assert charges(f, 1) == (33, 99)
+    assert numbers(f, f.last, 2, terms_in_row(f, f.last) - 1)[0] == (1 << 62) + 253
+
+
+def terms_with(f, N):
+    return [(row, (N - j) // m) for row, (m, j, _, _) in enumerate(f.rows) if N >= j and (N - j) % m == 0]
+
+
+def corner_terms(f, exponents):
+    title(f, "Corner terms: {}term p row k N E sign q (q in hexadecimal, 128 bits)")
+    for N in (1, 7):
+        for p in (1, 2, 3, 17, f.last):
+            for row, k in terms_with(f, N):
+                term_line(f, p, row, k, "N = %d" % N)
+    for E in exponents:
+        for row in row_numbers(f):
+            found = [(p, k) for p in range(1, 400) for k in range(terms_in_row(f, p))
+                     if numbers(f, p, row, k)[1] == E]
             for p, k in found[:1] + found[-1:]:
-                term_line(p, row, k, "E = %d" % E)
+                term_line(f, p, row, k, "E = %d" % E)
 
 
-def far_terms():
-    p = 1 << 60
-    K = terms_in_row(p)
-    print("\n# Terms at p = 2^60")
-    for row in range(7):
-        term_line(p, row, 0, "first")
-        last = (4 * (p - 1) + ROWS[row][2]) // 10
-        assert numbers(p, row, last)[1] >= 128 > numbers(p, row, last + 1)[1]
-        term_line(p, row, last - 1, "E >= 128")
-        term_line(p, row, last, "last with E >= 128")
-        term_line(p, row, last + 1, "first with E < 128")
-        term_line(p, row, K - 2, "last but one")
-        term_line(p, row, K - 1, "last")
-    assert numbers(p, 3, (4 * (p - 1)) // 10)[0] == (1 << 62) - 1
+def far_terms(f):
+    p = f.last
+    K = terms_in_row(f, p)
+    title(f, "Terms at p = " + last_power(f))
+    for row in row_numbers(f):
+        term_line(f, p, row, 0, "first")
+        last = (4 * (p - 1) + f.rows[row][2]) // f.step
+        assert numbers(f, p, row, last)[1] >= 128 > numbers(f, p, row, last + 1)[1]
+        term_line(f, p, row, last - 1, "E >= 128")
+        term_line(f, p, row, last, "last with E >= 128")
+        term_line(f, p, row, last + 1, "first with E < 128")
+        term_line(f, p, row, K - 2, "last but one")
+        term_line(f, p, row, K - 1, "last")
     rng = random.Random(1)
-    print("\n# Random terms at p = 2^60 and near it, and at powers of ten")
-    for p in (1 << 60, (1 << 60) - 1, 10**17, 10**9, 10**6):
-        for row in range(7):
+    title(f, "Random terms at p = %s and near it, and at powers of ten" % last_power(f))
+    for p in (f.last, f.last - 1, 10**17, 10**9, 10**6):
+        for row in row_numbers(f):
             for _ in range(3):
-                term_line(p, row, rng.randrange(terms_in_row(p)), "random")
+                term_line(f, p, row, rng.randrange(terms_in_row(f, p)), "random")
 
 
 def quotients():
@@ -202,106 +278,143 @@ def quotients():
             print("quotient %d %d %032x" % (E, N, quotient(E, N)))
 
 
-def far_blocks():
-    print("\n# Block ends at p = 2^60: block p C i first end")
-    p = 1 << 60
+def far_blocks(f):
+    title(f, "Block ends at p = %s: {}block p C i first end" % last_power(f))
     for c in (256, 255, 3, 2, 1):
         for i in sorted({0, 1, c // 2, c - 2, c - 1} & set(range(c))):
-            print("block %d %d %d %d %d" % ((p, c, i) + block(p, c, i)))
+            block_line(f, f.last, c, i)
 
 
-def tickets():
-    print("\n# Tickets: ticket p C row block sum-as-a-number sum-as-16-bytes")
-    for row in range(7):
-        ticket_line(1, 1, row, 0)
-    for row in range(7):
-        for i in (0, 18, 36, 37, 54, 128, 237, 255):
-            ticket_line(1, 256, row, i)
+# Blocks at p = 10^5, one for each row.
+PLACES = ((0, 0), (1, 255), (2, 128), (3, 17), (4, 200), (5, 99), (6, 254))
+
+
+def tickets(f, places):
+    title(f, "Tickets: {}ticket p C row block sum-as-a-number sum-as-16-bytes")
+    for row in row_numbers(f):
+        ticket_line(f, 1, 1, row, 0)
+    for row in row_numbers(f):
+        for i in places:
+            ticket_line(f, 1, 256, row, i)
     for p in (2, 3, 4, 17, 100):
-        for row in range(7):
+        for row in row_numbers(f):
             for c, i in ((1, 0), (3, 0), (3, 2), (255, 254), (256, 255)):
-                ticket_line(p, c, row, i)
+                ticket_line(f, p, c, row, i)
     for p in (1000, 12345):
-        for row in range(7):
-            ticket_line(p, 1, row, 0)
-            ticket_line(p, 7, row, 3)
-            ticket_line(p, 256, row, 255)
-    for row, i in ((0, 0), (1, 255), (2, 128), (3, 17), (4, 200), (5, 99), (6, 254)):
-        ticket_line(10**5, 256, row, i)
+        for row in row_numbers(f):
+            ticket_line(f, p, 1, row, 0)
+            ticket_line(f, p, 7, row, 3)
+            ticket_line(f, p, 256, row, 255)
+    for row, i in PLACES[:len(f.rows)]:
+        ticket_line(f, 10**5, 256, row, i)
 
 
-def far_tickets():
-    print("\n# Tickets of some million terms, with N above 2^33, below 2^32, above 2^32: far p C row block sum bytes")
+def far_tickets(f):
+    title(f, "Tickets of some million terms, with N above 2^33, below 2^32, above 2^32: {}far p C row block sum bytes")
     for p, row, i in ((22 * 10**8, 2, 255), (2 * 10**9, 1, 200), (2 * 10**9, 6, 180)):
-        ticket_line(p, 256, row, i, "far")
+        ticket_line(f, p, 256, row, i, "far")
 
 
-def half_blocks():
-    print("\n# Halves of blocks: lower-half p C i first end, upper-half p C i first end (end not included)")
-    assert halves(1, 256, 0) == ((0, 0), (0, 0)) and halves(1, 256, 255) == ((13, 13), (13, 14))
-    assert halves(1, 3, 2) == ((9, 11), (11, 14))
-    for p, c, i in [(1, 256, 0), (1, 256, 18), (1, 256, 255), (1, 1, 0), (1, 3, 0), (1, 3, 1), (1, 3, 2), (1, 7, 6),
-                    (4, 1, 0), (4, 2, 1), (1000, 3, 1), (12345, 7, 3), (6 * 10**9, 256, 255), (1 << 60, 1, 0),
-                    (1 << 60, 2, 1), (1 << 60, 3, 1), (1 << 60, 255, 254), (1 << 60, 256, 39), (1 << 60, 256, 255)]:
-        for kind, half in zip(("lower-half", "upper-half"), halves(p, c, i)):
-            print("%s %d %d %d %d %d" % ((kind, p, c, i) + half))
+def half_blocks(f):
+    title(f, "Halves of blocks: {}lower-half p C i first end, {}upper-half p C i first end (end not included)")
+    for p, c, i in [(1, 256, 0), (1, 256, f.one_term), (1, 256, 255), (1, 1, 0), (1, 3, 0), (1, 3, 1), (1, 3, 2), (1, 7, 6),
+                    (4, 1, 0), (4, 2, 1), (1000, 3, 1), (12345, 7, 3), (6 * 10**9, 256, 255), (f.last, 1, 0),
+                    (f.last, 2, 1), (f.last, 3, 1), (f.last, 255, 254), (f.last, 256, f.wrapping), (f.last, 256, 255)]:
+        for kind, half in zip(("lower-half", "upper-half"), halves(f, p, c, i)):
+            range_line(f, kind, p, c, i, half)
 
 
-def half_tickets():
-    print("\n# Halves of tickets: lower or upper, p C row block sum-as-a-number sum-as-16-bytes")
-    cases = [(1, c, row, i) for row in range(7)
-             for c, i in ((1, 0), (3, 0), (3, 1), (3, 2), (7, 6), (256, 0), (256, 18), (256, 255))]
-    cases += [(p, c, row, i) for p in (2, 3, 4, 17, 100) for row in range(7)
+def half_tickets(f):
+    title(f, "Halves of tickets: {}lower or {}upper, p C row block sum-as-a-number sum-as-16-bytes")
+    cases = [(1, c, row, i) for row in row_numbers(f)
+             for c, i in ((1, 0), (3, 0), (3, 1), (3, 2), (7, 6), (256, 0), (256, f.one_term), (256, 255))]
+    cases += [(p, c, row, i) for p in (2, 3, 4, 17, 100) for row in row_numbers(f)
               for c, i in ((1, 0), (3, 1), (7, 6), (256, 255))]
-    cases += [(p, c, row, i) for p in (1000, 12345) for row in range(7) for c, i in ((1, 0), (7, 3))]
-    cases += [(10**5, 256, row, i) for row, i in
-              ((0, 0), (1, 255), (2, 128), (3, 17), (4, 200), (5, 99), (6, 254))]
+    cases += [(p, c, row, i) for p in (1000, 12345) for row in row_numbers(f) for c, i in ((1, 0), (7, 3))]
+    cases += [(10**5, 256, row, i) for row, i in PLACES[:len(f.rows)]]
     for case in cases:
-        assert half_lines(*case) == ticket(*case)
-    print("\n# A ticket of some million terms, with first + end above 2^32: far-lower, far-upper")
-    half_lines(6 * 10**9, 256, 5, 255, ("far-lower", "far-upper"))
+        assert half_lines(f, *case) == ticket(f, *case)
 
 
-def closings():
-    print("\n# Closings, all tickets marked: closing p total answer digits")
-    for total in (0, 48, 49, 50, 51, M - 52, M - 51, M - 50, M - 49, M - 1,
+def far_halves(f):
+    title(f, "A ticket of some million terms, with first + end above 2^32: {}far-lower, {}far-upper")
+    half_lines(f, 6 * 10**9, 256, 5, 255, ("far-lower", "far-upper"))
+
+
+def far_ticket_and_halves(f):
+    title(f, "A ticket of some million terms, with N above 2^32, and its halves: {}far, {}far-lower, {}far-upper")
+    case = (7 * 10**8, 256, 2, 200)
+    sum_line(f, "far", *case, half_lines(f, *case, ("far-lower", "far-upper")))
+
+
+def closings(f):
+    title(f, "Closings, all tickets marked: {}closing p total answer digits")
+    a, b = charges(f, 1)
+    for total in (0, b - 1, b, b + 1, b + 2, M - a - 3, M - a - 2, M - a - 1, M - a, M - 1,
                   (1 << 124) + (1 << 120), 1 << 127, 1 << 124):
-        closing_line(1, total)
-    assert closing(1, 49)[0] == -9 and closing(1, 50) == (30, "0" * 30)
-    assert closing(1, M - 51) == (30, "F" * 30) and closing(1, M - 50)[0] == -9
-    assert closing(1, (1 << 124) + (1 << 120)) == (1, "1")
-    assert closing(1, 0)[0] == -9
+        closing_line(f, 1, total)
+    assert closing(f, 1, b)[0] == -9 and closing(f, 1, b + 1) == (30, "0" * 30)
+    assert closing(f, 1, M - a - 2) == (30, "F" * 30) and closing(f, 1, M - a - 1)[0] == -9
+    assert closing(f, 1, (1 << 124) + (1 << 120)) == (1, "1")
+    assert closing(f, 1, 0)[0] == -9
     rng = random.Random(2)
-    for p in (1, 2, 3, 4, 5, 6, 1000, 10**6, 10**12, 1 << 59, (1 << 60) - 1, 1 << 60):
+    for p in (1, 2, 3, 4, 5, 6, 1000, 10**6, 10**12, f.last // 2, f.last - 1, f.last):
         for _ in range(4):
-            closing_line(p, rng.getrandbits(128))
-        a, b = charges(p)
+            closing_line(f, p, rng.getrandbits(128))
+        a, b = charges(f, p)
         for edge in (1 << 124, 5 << 120, 9 << 100, 0xABC << 80, 0):
             for off in (b, b + 1, -a - 2, -a - 1):
-                closing_line(p, (edge + off) % M)
-    print("\n# Runs worked and closed, compared with the digits of pi")
+                closing_line(f, p, (edge + off) % M)
+
+
+def worked_runs(f, digits_at_1):
+    title(f, "Runs worked and closed, compared with the digits of pi")
     pi = pi_digits(1100)
     for p in (1, 2, 3, 4, 5, 17, 100, 1000):
-        total = sum(ticket(p, 1, row, 0) for row in range(7)) % M
-        d, digits = closing(p, total)
+        total = sum(ticket(f, p, 1, row, 0) for row in row_numbers(f)) % M
+        d, digits = closing(f, p, total)
         assert digits == pi[p - 1:p - 1 + d], p
-        closing_line(p, total)
+        assert p > 1 or d == digits_at_1
+        closing_line(f, p, total)
+
+
+def bellard_runs():
+    f = BELLARD
+    bellard_figures()
+    corner_terms(f, (-10, -3, -2, -1, 0, 1, 2, 63, 64, 65, 126, 127, 128, 129, 130, 191, 192, 193))
+    far_terms(f)
+    far_blocks(f)
+    tickets(f, (0, 18, 36, 37, 54, 128, 237, 255))
+    far_tickets(f)
+    half_blocks(f)
+    half_tickets(f)
+    far_halves(f)
+    closings(f)
+    worked_runs(f, 30)
+
+
+def check_runs():
+    f = CHECK
+    check_figures()
+    corner_terms(f, (-1, 0, 2, 3, 4, 62, 63, 64, 66, 67, 124, 126, 127, 128, 130, 131, 190, 191, 192, 194, 195))
+    far_terms(f)
+    far_blocks(f)
+    tickets(f, (0, 6, 7, 15, 54, 128, 248, 255))
+    half_blocks(f)
+    half_tickets(f)
+    far_ticket_and_halves(f)
+    closings(f)
+    worked_runs(f, 29)
 
 
 def main():
     print("# Written by tools/vectors.py (whole numbers, straight from document 01).")
     print("# A line is a word that says its kind, then its numbers; '#' starts a comment.")
-    figures()
-    corner_terms()
-    far_terms()
-    far_blocks()
-    tickets()
-    far_tickets()
-    half_blocks()
-    half_tickets()
-    closings()
+    bellard_runs()
     quotients()
+    check_runs()
     return 0
 
 
-sys.exit(main())
+if __name__ == "__main__":
+    sys.exit(main())

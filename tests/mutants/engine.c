@@ -1,8 +1,8 @@
 /*
- * A stand-in for the engine, in C: the nine calls by Montgomery arithmetic
- * and early returns, sharing no code with the reference. It is right unless
- * the environment variable MUTANT names a number; then it is wrong in the one
- * way that WRONG(number) marks. tests/mutants/run.sh shows that the tests pass
+ * A stand-in for the engine, in C: the nine calls of both kinds of runs by
+ * Montgomery arithmetic and early returns, sharing no code with the reference.
+ * It is right unless the environment variable MUTANT names a number; then it is
+ * wrong in the one way that WRONG(number) marks. tests/mutants/run.sh shows that the tests pass
  * on the right one and fail on each wrong one.
  */
 #include "bbp.h"
@@ -53,17 +53,32 @@ static int unaligned(int number, const uint8_t *at)
     return WRONG(number) && (uintptr_t)at % 2 != 0;
 }
 
-static int bad_run(uint64_t p, uint64_t c)
+/* The kinds of runs. From a term of a row to the next, E falls by `step`. */
+typedef struct {
+    uint64_t last, rows, step, alternates;
+    struct { uint8_t m, j; int8_t l; uint8_t subtracted; } row[7];
+} formula;
+
+static const formula bellard = {(uint64_t)1 << 60, 7, 10, 1, {
+    {4, 1, -1, 1}, {4, 3, -6, 1}, {10, 1, 2, 0}, {10, 3, 0, 1}, {10, 5, -4, 1}, {10, 7, -4, 1}, {10, 9, -6, 0},
+}};
+
+static const formula check = {(uint64_t)1 << 59, 4, 4, 0, {
+    {8, 1, 2, 0}, {2, 1, -1, 1}, {8, 5, 0, 1}, {4, 3, -1, 1},
+}};
+
+static int bad_run(const formula *f, uint64_t p, uint64_t c)
 {
-    uint64_t last = WRONG(28) ? BBP_MAX_POSITION - 1 : BBP_MAX_POSITION;
-    return p == 0 || p > last || c == 0 || c > BBP_MAX_BLOCKS;
+    uint64_t last = WRONG(28) ? f->last - 1 : f->last;
+    return p == 0 || p > last || c == 0 || c > 256;
+}
+
+static int bad_row(const formula *f, uint64_t row)
+{
+    return row >= f->rows;
 }
 
 /* Terms. */
-
-static const struct { uint8_t m, j; int8_t l; uint8_t subtracted; } table[7] = {
-    {4, 1, -1, 1}, {4, 3, -6, 1}, {10, 1, 2, 0}, {10, 3, 0, 1}, {10, 5, -4, 1}, {10, 7, -4, 1}, {10, 9, -6, 0},
-};
 
 static uint64_t high_word(uint64_t x, uint64_t y)
 {
@@ -121,10 +136,10 @@ static u128 exact_quotient(uint64_t r, uint64_t n, uint64_t mu)
     return (u128)upper << 64 | lower;
 }
 
-static u128 term(uint64_t p, uint64_t row, uint64_t k)
+static u128 term(const formula *f, uint64_t p, uint64_t row, uint64_t k)
 {
-    uint64_t n = (table[row].m * k + table[row].j) & (WRONG(61) ? ((uint64_t)1 << 33) - 1 : UINT64_MAX);
-    int64_t e = 4 * (int64_t)(p - !WRONG(7)) + table[row].l - 10 * (int64_t)k + 128;
+    uint64_t n = (f->row[row].m * k + f->row[row].j) & (WRONG(61) ? ((uint64_t)1 << 33) - 1 : UINT64_MAX);
+    int64_t e = 4 * (int64_t)(p - !WRONG(7)) + f->row[row].l - (int64_t)(f->step * k) + 128;
     if (e < (WRONG(33) ? 8 : 0))
         return 0;
     if (e < (WRONG(34) ? 127 : 128))
@@ -133,33 +148,34 @@ static u128 term(uint64_t p, uint64_t row, uint64_t k)
     return exact_quotient(residue((uint64_t)e, n, mu), n, mu);
 }
 
-static uint64_t terms_of(uint64_t p)
+static uint64_t terms_of(const formula *f, uint64_t p)
 {
-    return (4 * (p - 1) + 130) / 10 + (WRONG(35) ? 0 : 1);
+    return (4 * (p - 1) + 130) / f->step + (WRONG(35) ? 0 : 1);
 }
 
-static uint64_t first_of(uint64_t p, uint64_t c, uint64_t i)
+static uint64_t first_of(const formula *f, uint64_t p, uint64_t c, uint64_t i)
 {
     if (WRONG(36))
-        return i * (terms_of(p) / c);
+        return i * (terms_of(f, p) / c);
     if (WRONG(64))
-        return i * terms_of(p) / c;
-    return (uint64_t)((u128)i * terms_of(p) / c);
+        return i * terms_of(f, p) / c;
+    return (uint64_t)((u128)i * terms_of(f, p) / c);
 }
 
 /*
- * Terms of a row, from `first` up to, not including, `end`. The signs alternate
- * from term `origin` on, which only a wrong engine has at another place than 0.
+ * Terms of a row, from `first` up to, not including, `end`. Signs that alternate
+ * do so from term `origin` on, which only a wrong engine has at another place than 0.
  */
 typedef struct {
+    const formula *f;
     uint64_t p, row, first, end, origin;
 } range;
 
-static range ticket_range(uint64_t p, uint64_t c, uint64_t row, uint64_t block)
+static range ticket_range(const formula *f, uint64_t p, uint64_t c, uint64_t row, uint64_t block)
 {
     if (WRONG(62))
         p = 1, c = 1, row = 0, block = 0;
-    range terms = {p, row, first_of(p, c, block), first_of(p, c, block + 1), 0};
+    range terms = {f, p, row, first_of(f, p, c, block), first_of(f, p, c, block + 1), 0};
     if (WRONG(71) && p > UINT64_C(10000000000))
         terms.end = terms.first;
     return terms;
@@ -167,14 +183,15 @@ static range ticket_range(uint64_t p, uint64_t c, uint64_t row, uint64_t block)
 
 static u128 signed_term(const range *terms, uint64_t k)
 {
-    u128 q = term(terms->p, terms->row, k);
-    uint64_t odd = WRONG(8) ? 0 : (k - terms->origin) & 1;
-    return odd != table[terms->row].subtracted ? -q : q;
+    const formula *f = terms->f;
+    u128 q = term(f, terms->p, terms->row, k);
+    uint64_t odd = WRONG(8) ? 0 : (k - terms->origin) & f->alternates;
+    return odd != f->row[terms->row].subtracted ? -q : q;
 }
 
-static u128 ticket(uint64_t p, uint64_t c, uint64_t row, uint64_t block)
+static u128 ticket(const formula *f, uint64_t p, uint64_t c, uint64_t row, uint64_t block)
 {
-    const range terms = ticket_range(p, c, row, block);
+    const range terms = ticket_range(f, p, c, row, block);
     u128 sum = 0;
     for (uint64_t k = terms.first; k < terms.end; k++)
         sum += signed_term(&terms, k);
@@ -217,13 +234,14 @@ static u128 load_sum(const uint8_t *at)
 }
 
 /* The refusals of the working calls. The sum is lent for the wrong engine that writes it all the same. */
-static int64_t bad_ticket(uint64_t p, uint64_t c, uint64_t row, uint64_t block, uint8_t *sum, size_t sum_len)
+static int64_t bad_ticket(const formula *f, uint64_t p, uint64_t c, uint64_t row, uint64_t block, uint8_t *sum,
+                          size_t sum_len)
 {
     if (length(sum_len) != 16 || unaligned(52, sum))
         return -1;
-    if (bad_run(p, c))
+    if (bad_run(f, p, c))
         return -2;
-    if (row > 6 || block >= c) {
+    if (bad_row(f, row) || block >= c) {
         if (WRONG(41))
             store_sum(sum, 0);
         return -4;
@@ -231,24 +249,24 @@ static int64_t bad_ticket(uint64_t p, uint64_t c, uint64_t row, uint64_t block, 
     return 0;
 }
 
-int64_t bbp_work(uint64_t p, uint64_t c, uint64_t row, uint64_t block, uint8_t *sum, size_t sum_len)
+static int64_t work(const formula *f, uint64_t p, uint64_t c, uint64_t row, uint64_t block, uint8_t *sum, size_t sum_len)
 {
     if (WRONG(15))
         row &= 255, block &= 65535;
-    int64_t bad = bad_ticket(p, c, row, block, sum, sum_len);
+    int64_t bad = bad_ticket(f, p, c, row, block, sum, sum_len);
     if (bad == 0)
-        store_sum(sum, ticket(p, c, row, block));
+        store_sum(sum, ticket(f, p, c, row, block));
     return bad;
 }
 
 /* Where a ticket is cut, and where wrong engines cut it. */
 static uint64_t cut_of(const range *terms, uint64_t c, uint64_t block)
 {
-    uint64_t middle = terms_of(terms->p) / 2;
+    uint64_t middle = terms_of(terms->f, terms->p) / 2;
     if (WRONG(104))
         return middle < terms->first ? terms->first : middle > terms->end ? terms->end : middle;
     if (WRONG(118))
-        return first_of(terms->p, 2 * c, 2 * block + 1);
+        return first_of(terms->f, terms->p, 2 * c, 2 * block + 1);
     if (WRONG(119))
         return (uint32_t)(terms->first + terms->end) / 2;
     if (WRONG(120))
@@ -258,9 +276,9 @@ static uint64_t cut_of(const range *terms, uint64_t c, uint64_t block)
     return (terms->first + terms->end + WRONG(103)) / 2;
 }
 
-static range half_range(uint64_t p, uint64_t c, uint64_t row, uint64_t block, int upper)
+static range half_range(const formula *f, uint64_t p, uint64_t c, uint64_t row, uint64_t block, int upper)
 {
-    range terms = ticket_range(p, c, row, block);
+    range terms = ticket_range(f, p, c, row, block);
     uint64_t cut = cut_of(&terms, c, block), after = cut < terms.end ? cut + 1 : cut;
     if (WRONG(100) || WRONG(101))
         upper = WRONG(101);
@@ -276,43 +294,47 @@ static range half_range(uint64_t p, uint64_t c, uint64_t row, uint64_t block, in
 }
 
 /* Refused by an engine that wants terms in a ticket before it cuts it. */
-static int wants_terms(uint64_t p, uint64_t c, uint64_t row, uint64_t block)
+static int wants_terms(const formula *f, uint64_t p, uint64_t c, uint64_t row, uint64_t block)
 {
-    const range terms = ticket_range(p, c, row, block);
+    const range terms = ticket_range(f, p, c, row, block);
     return (WRONG(105) && terms.first == terms.end) || (WRONG(106) && terms.end - terms.first == 1);
 }
 
-static int64_t bad_half(uint64_t p, uint64_t c, uint64_t row, uint64_t block, uint8_t *sum, size_t sum_len)
+static int64_t bad_half(const formula *f, uint64_t p, uint64_t c, uint64_t row, uint64_t block, uint8_t *sum,
+                        size_t sum_len)
 {
-    int64_t bad = bad_ticket(p, c, row, block, sum, sum_len);
-    if (WRONG(113) && bad == -2 && (row > 6 || block >= c))
+    int64_t bad = bad_ticket(f, p, c, row, block, sum, sum_len);
+    if (WRONG(113) && bad == -2 && (bad_row(f, row) || block >= c))
         return -4;
-    if (WRONG(114) && bad == -1 && bad_run(p, c))
+    if (WRONG(114) && bad == -1 && bad_run(f, p, c))
         return -2;
-    return bad == 0 && wants_terms(p, c, row, block) ? -4 : bad;
+    return bad == 0 && wants_terms(f, p, c, row, block) ? -4 : bad;
 }
 
-static int64_t work_half(uint64_t p, uint64_t c, uint64_t row, uint64_t block, uint8_t *sum, size_t sum_len, int upper)
+static int64_t work_half(const formula *f, uint64_t p, uint64_t c, uint64_t row, uint64_t block, uint8_t *sum,
+                         size_t sum_len, int upper)
 {
     if (WRONG(15))
         row &= 255, block &= 65535;
-    int64_t bad = bad_half(p, c, row, block, sum, sum_len);
+    int64_t bad = bad_half(f, p, c, row, block, sum, sum_len);
     if (bad != 0)
         return bad;
-    const range terms = half_range(p, c, row, block, upper);
+    const range terms = half_range(f, p, c, row, block, upper);
     if (!(WRONG(115) && terms.first == terms.end))
         store_sum(sum, by_halves(terms, 0));
     return WRONG(116) ? (int64_t)(terms.end - terms.first) : 0;
 }
 
-int64_t bbp_work_lower(uint64_t p, uint64_t c, uint64_t row, uint64_t block, uint8_t *sum, size_t sum_len)
+static int64_t work_lower(const formula *f, uint64_t p, uint64_t c, uint64_t row, uint64_t block, uint8_t *sum,
+                          size_t sum_len)
 {
-    return work_half(p, c, row, block, sum, sum_len, 0);
+    return work_half(f, p, c, row, block, sum, sum_len, 0);
 }
 
-int64_t bbp_work_upper(uint64_t p, uint64_t c, uint64_t row, uint64_t block, uint8_t *sum, size_t sum_len)
+static int64_t work_upper(const formula *f, uint64_t p, uint64_t c, uint64_t row, uint64_t block, uint8_t *sum,
+                          size_t sum_len)
 {
-    return work_half(p, c, row, block, sum, sum_len, 1);
+    return work_half(f, p, c, row, block, sum, sum_len, 1);
 }
 
 /* The ledger: 16 bytes of head, a sum of 16 bytes for each row, marks of 32 bytes for each row. */
@@ -320,67 +342,72 @@ int64_t bbp_work_upper(uint64_t p, uint64_t c, uint64_t row, uint64_t block, uin
 /* Whether an engine that takes ledgers of version 1.0.0 has got one: 256 bytes, one total at 16, marks from 32 on. */
 static int is_old;
 
-static int bad_ledger_size(size_t ledger_len)
+static size_t marks_of(const formula *f)
 {
-    size_t len = length(ledger_len);
-    is_old = WRONG(78) && len == 256;
-    return len != 352 && !is_old && !(WRONG(79) && len > 352);
+    return WRONG(77) || is_old ? 32 : 16 + 16 * f->rows;
 }
 
-int64_t bbp_open(uint64_t p, uint64_t c, uint8_t *ledger, size_t ledger_len)
+static int bad_ledger_size(const formula *f, size_t ledger_len)
 {
-    if (bad_ledger_size(ledger_len) || unaligned(54, ledger))
+    size_t len = length(ledger_len), size = 16 + 48 * f->rows;
+    is_old = WRONG(78) && f == &bellard && len == 256;
+    return len != size && !is_old && !(WRONG(79) && len > size);
+}
+
+static int64_t open_run(const formula *f, uint64_t p, uint64_t c, uint8_t *ledger, size_t ledger_len)
+{
+    if (bad_ledger_size(f, ledger_len) || unaligned(54, ledger))
         return -1;
-    if (bad_run(p, c))
+    if (bad_run(f, p, c))
         return -2;
     memset(ledger, 0, 32);
     if (!WRONG(82))
-        memset(ledger + 32, 0, 96);
-    memset(ledger + 128, 0, WRONG(9) ? 223 : is_old ? 128 : 224);
+        memset(ledger + 32, 0, marks_of(f) - 32);
+    memset(ledger + marks_of(f), 0, WRONG(9) ? 32 * f->rows - 1 : 32 * f->rows);
     store(ledger, 8, p);
     store(ledger + 8, 2, c);
     return 0;
 }
 
-static size_t sum_at(uint64_t row)
+static size_t sum_at(const formula *f, uint64_t row)
 {
-    return 16 + 16 * (WRONG(85) ? 6 - row : is_old ? 0 : row);
+    return 16 + 16 * (WRONG(85) ? f->rows - 1 - row : is_old ? 0 : row);
 }
 
-static size_t mark_at(uint64_t row, uint64_t block)
+static size_t mark_at(const formula *f, uint64_t row, uint64_t block)
 {
-    return (WRONG(77) || is_old ? 32 : 128) + 32 * row + block / 8;
+    return marks_of(f) + 32 * row + block / 8;
 }
 
-static int is_marked(const uint8_t *ledger, uint64_t row, uint64_t block)
+static int is_marked(const formula *f, const uint8_t *ledger, uint64_t row, uint64_t block)
 {
-    return ledger[mark_at(row, block)] >> (block & 7) & 1;
+    return ledger[mark_at(f, row, block)] >> (block & 7) & 1;
 }
 
 /* Whether a row without a mark has a sum other than 0: no refusal asks for it. */
-static int sum_without_mark(const uint8_t *ledger, uint64_t row)
+static int sum_without_mark(const formula *f, const uint8_t *ledger, uint64_t row)
 {
     for (uint64_t block = 0; block < 256; block++)
-        if (is_marked(ledger, row, block))
+        if (is_marked(f, ledger, row, block))
             return 0;
-    return load_sum(ledger + sum_at(row)) != 0;
+    return load_sum(ledger + sum_at(f, row)) != 0;
 }
 
-static int bad_ledger(const uint8_t *ledger)
+static int bad_ledger(const formula *f, const uint8_t *ledger)
 {
     uint64_t c = load(ledger + 8, 2);
-    if (bad_run(load(ledger, 8), c))
+    if (bad_run(f, load(ledger, 8), c))
         return 1;
     for (int i = 10; i < (WRONG(37) ? 15 : 16); i++)
         if (ledger[i] != 0)
             return 1;
     if (WRONG(20))
         return 0;
-    for (uint64_t row = 0; row < 7; row++) {
+    for (uint64_t row = 0; row < f->rows; row++) {
         for (uint64_t block = c; block < 256; block++)
-            if (is_marked(ledger, row, block))
+            if (is_marked(f, ledger, row, block))
                 return 1;
-        if (WRONG(89) && sum_without_mark(ledger, row))
+        if (WRONG(89) && sum_without_mark(f, ledger, row))
             return 1;
     }
     return 0;
@@ -392,9 +419,9 @@ static int other_run(const uint8_t *ledger, uint64_t p, uint64_t c)
 }
 
 /* A ticket's sum into the sum of its row. */
-static void add(uint8_t *ledger, uint64_t row, const uint8_t *sum)
+static void add(const formula *f, uint8_t *ledger, uint64_t row, const uint8_t *sum)
 {
-    uint8_t *at = ledger + sum_at(WRONG(72) ? (row + 1) % 7 : WRONG(73) ? 0 : row);
+    uint8_t *at = ledger + sum_at(f, WRONG(72) ? (row + 1) % f->rows : WRONG(73) ? 0 : row);
     u128 before = WRONG(90) ? 0 : load_sum(at), after = plus(before, load_sum(sum), WRONG(19), WRONG(81));
     store_sum(at, after);
     if (WRONG(87) && after < before)
@@ -403,62 +430,62 @@ static void add(uint8_t *ledger, uint64_t row, const uint8_t *sum)
         store_sum(ledger + 16, load_sum(ledger + 16) + load_sum(sum));
 }
 
-static void mark(uint8_t *ledger, uint64_t row, uint64_t block)
+static void mark(const formula *f, uint8_t *ledger, uint64_t row, uint64_t block)
 {
-    ledger[mark_at(row, block)] |= (uint8_t)(1u << (block & 7));
+    ledger[mark_at(f, row, block)] |= (uint8_t)(1u << (block & 7));
 }
 
-static int is_empty(const uint8_t *ledger)
+static int is_empty(const formula *f, const uint8_t *ledger)
 {
-    for (int i = 128; i < 352; i++)
-        if (ledger[i] != 0)
+    for (size_t i = 0; i < 32 * f->rows; i++)
+        if (ledger[marks_of(f) + i] != 0)
             return 0;
     return 1;
 }
 
 /* The sums of all tickets of the ledger's run into an empty ledger, and nothing into another. */
-static void fill_sums(uint8_t *ledger)
+static void fill_sums(const formula *f, uint8_t *ledger)
 {
     uint8_t sum[16];
-    for (uint64_t row = 0; is_empty(ledger) && row < 7; row++) {
-        store_sum(sum, ticket(load(ledger, 8), 1, row, 0));
-        add(ledger, row, sum);
+    for (uint64_t row = 0; is_empty(f, ledger) && row < f->rows; row++) {
+        store_sum(sum, ticket(f, load(ledger, 8), 1, row, 0));
+        add(f, ledger, row, sum);
     }
 }
 
-static void post_ticket(uint8_t *ledger, uint64_t row, uint64_t block, const uint8_t *sum)
+static void post_ticket(const formula *f, uint8_t *ledger, uint64_t row, uint64_t block, const uint8_t *sum)
 {
     if (WRONG(65) && load(ledger, 8) <= 1000)
-        fill_sums(ledger);
+        fill_sums(f, ledger);
     else
-        add(ledger, row, sum);
-    mark(ledger, row, block);
+        add(f, ledger, row, sum);
+    mark(f, ledger, row, block);
 }
 
-int64_t bbp_post(uint8_t *ledger, size_t ledger_len, uint64_t p, uint64_t c, uint64_t row, uint64_t block,
-                 const uint8_t *sum, size_t sum_len)
+static int64_t post(const formula *f, uint8_t *ledger, size_t ledger_len, uint64_t p, uint64_t c, uint64_t row,
+                    uint64_t block, const uint8_t *sum, size_t sum_len)
 {
-    if (bad_ledger_size(ledger_len) || length(sum_len) != 16 || unaligned(54, ledger) || unaligned(52, sum))
+    if (bad_ledger_size(f, ledger_len) || length(sum_len) != 16 || unaligned(54, ledger) || unaligned(52, sum))
         return -1;
-    if (bad_run(p, c))
+    if (bad_run(f, p, c))
         return -2;
-    if (WRONG(1) && bad_ledger(ledger))
+    if (WRONG(1) && bad_ledger(f, ledger))
         return -5;
-    if (row > 6 || block >= (WRONG(16) ? load(ledger + 8, 2) : c))
+    if (bad_row(f, row) || block >= (WRONG(16) ? load(ledger + 8, 2) : c))
         return -4;
-    if (bad_ledger(ledger))
+    if (bad_ledger(f, ledger))
         return -5;
     if (other_run(ledger, p, c))
         return -6;
-    if (is_marked(ledger, row, block)) {
+    if (is_marked(f, ledger, row, block)) {
         if (WRONG(2))
             ledger[16] ^= 1;
         if (WRONG(86))
-            add(ledger, row, sum);
+            add(f, ledger, row, sum);
         return -7;
     }
     if (!WRONG(63))
-        post_ticket(ledger, row, block, sum);
+        post_ticket(f, ledger, row, block, sum);
     if (WRONG(45))
         *(volatile uint8_t *)(uintptr_t)sum = sum[0];
     return 0;
@@ -471,30 +498,41 @@ static int descends(uint64_t before, uint64_t after)
     return WRONG(4) ? before > after : before >= after;
 }
 
-static int64_t bad_list(uint64_t c, const uint8_t *list, size_t e)
+static int64_t bad_list(const formula *f, uint64_t c, const uint8_t *list, size_t e)
 {
     for (size_t i = 1; i < e; i++)
         if (descends(load(list + 2 * i - 2, 2), load(list + 2 * i, 2)))
             return -3;
-    if (WRONG(59) && e > 7 * c)
+    if (WRONG(59) && e > f->rows * c)
         c = 256;
     for (size_t i = 0; i < e; i++)
-        if (list[2 * i + 1] > 6 || list[2 * i] >= c)
+        if (bad_row(f, list[2 * i + 1]) || list[2 * i] >= c)
             return -4;
     return 0;
 }
 
-/* The ways in which the stand-in refuses a list that is right. */
-static int64_t wrongly_refused(uint64_t p, size_t e, size_t sheet_len)
+/* The most tickets of a run, and the bytes of their sheet. */
+static size_t most_tickets(const formula *f)
 {
-    if ((WRONG(24) && e == 0) || (WRONG(31) && sheet_len > BBP_SHEET_MAX) || (WRONG(58) && e == 1791))
+    return 256 * f->rows;
+}
+
+static size_t longest_sheet(const formula *f)
+{
+    return 16 + 20 * most_tickets(f);
+}
+
+/* The ways in which the stand-in refuses a list that is right. */
+static int64_t wrongly_refused(const formula *f, uint64_t p, size_t e, size_t sheet_len)
+{
+    if ((WRONG(24) && e == 0) || (WRONG(31) && sheet_len > longest_sheet(f)) || (WRONG(58) && e == most_tickets(f) - 1))
         return -1;
-    if ((WRONG(46) && e > 0 && p > 1000) || (WRONG(48) && e == 0 && p == BBP_MAX_POSITION))
+    if ((WRONG(46) && e > 0 && p > 1000) || (WRONG(48) && e == 0 && p == f->last))
         return -2;
     return 0;
 }
 
-static void write_sheet(uint64_t p, uint64_t c, const uint8_t *list, size_t e, uint8_t *sheet)
+static void write_sheet(const formula *f, uint64_t p, uint64_t c, const uint8_t *list, size_t e, uint8_t *sheet)
 {
     store(sheet, 8, p);
     store(sheet + 8, 2, c);
@@ -504,26 +542,27 @@ static void write_sheet(uint64_t p, uint64_t c, const uint8_t *list, size_t e, u
         sheet[16 + 4 * i] = row;
         sheet[18 + 4 * i] = block;
         if (!(WRONG(47) && p > 1000))
-            store_sum(sheet + 16 + 4 * e + 16 * i, ticket(p, c, row, block));
+            store_sum(sheet + 16 + 4 * e + 16 * i, ticket(f, p, c, row, block));
     }
 }
 
-int64_t bbp_sheet_write(uint64_t p, uint64_t c, const uint8_t *list, size_t list_len, uint8_t *sheet, size_t sheet_len)
+static int64_t sheet_write(const formula *f, uint64_t p, uint64_t c, const uint8_t *list, size_t list_len, uint8_t *sheet,
+                           size_t sheet_len)
 {
-    size_t e = length(list_len) / 2, size = BBP_SHEET_SIZE(e);
-    if (length(list_len) % 2 != 0 || length(list_len) > BBP_LIST_MAX || output_length(49, sheet_len) < size)
+    size_t e = length(list_len) / 2, size = 16 + 20 * e;
+    if (length(list_len) % 2 != 0 || e > most_tickets(f) || output_length(49, sheet_len) < size)
         return -1;
     if (unaligned(56, list) || unaligned(55, sheet))
         return -1;
-    if (bad_run(p, c))
+    if (bad_run(f, p, c))
         return -2;
-    int64_t bad = bad_list(c, list, e);
+    int64_t bad = bad_list(f, c, list, e);
     if (bad == 0)
-        bad = wrongly_refused(p, e, sheet_len);
+        bad = wrongly_refused(f, p, e, sheet_len);
     if (bad != 0)
         return bad;
     memset(sheet, 0, WRONG(5) && sheet_len > size ? size + 1 : size);
-    write_sheet(p, c, list, e, sheet);
+    write_sheet(f, p, c, list, e, sheet);
     return (int64_t)size;
 }
 
@@ -532,39 +571,39 @@ static uint64_t key(const uint8_t *entry)
     return ((uint64_t)entry[0] << 8) + (WRONG(17) ? entry[2] : load(entry + 2, 2));
 }
 
-static int64_t bad_sheet(const uint8_t *sheet, size_t sheet_len)
+static int64_t bad_sheet(const formula *f, const uint8_t *sheet, size_t sheet_len)
 {
     uint64_t c = load(sheet + 8, 2);
     size_t e = load(sheet + 10, 2);
-    if (bad_run(load(sheet, 8), c))
+    if (bad_run(f, load(sheet, 8), c))
         return -2;
-    if (sheet_len != BBP_SHEET_SIZE(e) || load(sheet + 12, 4) != 0)
+    if (sheet_len != 16 + 20 * e || load(sheet + 12, 4) != 0)
         return -3;
     for (size_t i = 0; i < e; i++)
         if (sheet[17 + 4 * i] != 0 || (i > 0 && descends(key(sheet + 12 + 4 * i), key(sheet + 16 + 4 * i))))
             return -3;
-    if (WRONG(60) && e > 7 * c)
+    if (WRONG(60) && e > f->rows * c)
         c = 256;
     for (size_t i = 0; i < e; i++)
-        if (sheet[16 + 4 * i] > 6 || load(sheet + 18 + 4 * i, 2) >= c)
+        if (bad_row(f, sheet[16 + 4 * i]) || load(sheet + 18 + 4 * i, 2) >= c)
             return -4;
-    return WRONG(58) && e == 1791 ? -3 : 0;
+    return WRONG(58) && e == most_tickets(f) - 1 ? -3 : 0;
 }
 
-static int bad_sheet_size(size_t sheet_len)
+static int bad_sheet_size(const formula *f, size_t sheet_len)
 {
-    return length(sheet_len) < 16 || (length(sheet_len) > BBP_SHEET_MAX && !WRONG(30));
+    return length(sheet_len) < 16 || (length(sheet_len) > longest_sheet(f) && !WRONG(30));
 }
 
-int64_t bbp_sheet_read(const uint8_t *sheet, size_t sheet_len, uint8_t *list, size_t list_len,
-                       uint8_t *sums, size_t sums_len)
+static int64_t sheet_read(const formula *f, const uint8_t *sheet, size_t sheet_len, uint8_t *list, size_t list_len,
+                          uint8_t *sums, size_t sums_len)
 {
-    if (bad_sheet_size(sheet_len) || unaligned(55, sheet) || unaligned(56, list) || unaligned(57, sums))
+    if (bad_sheet_size(f, sheet_len) || unaligned(55, sheet) || unaligned(56, list) || unaligned(57, sums))
         return -1;
     if (WRONG(44))
         (void)*(const volatile uint8_t *)(sheet + sheet_len);
     size_t e = load(sheet + 10, 2);
-    int64_t bad = bad_sheet(sheet, length(sheet_len));
+    int64_t bad = bad_sheet(f, sheet, length(sheet_len));
     if (WRONG(18) && bad != 0)
         return bad;
     if (WRONG(6) && bad == 0 && list_len >= 2 * e)
@@ -585,71 +624,72 @@ int64_t bbp_sheet_read(const uint8_t *sheet, size_t sheet_len, uint8_t *list, si
 }
 
 /* The sum of the sheet's ticket i into its row. Some wrong engines leave out tickets. */
-static void add_of_sheet(uint8_t *ledger, const uint8_t *sheet, size_t e, size_t i)
+static void add_of_sheet(const formula *f, uint8_t *ledger, const uint8_t *sheet, size_t e, size_t i)
 {
     uint8_t row = sheet[16 + 4 * i], last = sheet[12 + 4 * e];
     if ((WRONG(42) && i > 0) || (WRONG(83) && row != last) || (WRONG(91) && i + 1 < e && row == sheet[20 + 4 * i]))
         return;
-    add(ledger, WRONG(84) ? sheet[16] : row, sheet + 16 + 4 * e + 16 * (WRONG(23) ? 0 : i));
+    add(f, ledger, WRONG(84) ? sheet[16] : row, sheet + 16 + 4 * e + 16 * (WRONG(23) ? 0 : i));
 }
 
-static int64_t post_sheet(uint8_t *ledger, const uint8_t *sheet, size_t e)
+static int64_t post_sheet(const formula *f, uint8_t *ledger, const uint8_t *sheet, size_t e)
 {
     for (size_t i = 0; i < e && !WRONG(3); i++) {
-        if (is_marked(ledger, sheet[16 + 4 * i], sheet[18 + 4 * i]))
+        if (is_marked(f, ledger, sheet[16 + 4 * i], sheet[18 + 4 * i]))
             return -7;
         if (WRONG(92))
-            add_of_sheet(ledger, sheet, e, i);
+            add_of_sheet(f, ledger, sheet, e, i);
     }
     for (size_t i = 0; i < e && !WRONG(70); i++) {
-        if (WRONG(3) && is_marked(ledger, sheet[16 + 4 * i], sheet[18 + 4 * i]))
+        if (WRONG(3) && is_marked(f, ledger, sheet[16 + 4 * i], sheet[18 + 4 * i]))
             return -7;
-        mark(ledger, sheet[16 + 4 * i], sheet[18 + 4 * i]);
+        mark(f, ledger, sheet[16 + 4 * i], sheet[18 + 4 * i]);
         if (!WRONG(92))
-            add_of_sheet(ledger, sheet, e, i);
+            add_of_sheet(f, ledger, sheet, e, i);
     }
     return 0;
 }
 
-int64_t bbp_sheet_post(uint8_t *ledger, size_t ledger_len, const uint8_t *sheet, size_t sheet_len)
+static int64_t sheet_post(const formula *f, uint8_t *ledger, size_t ledger_len, const uint8_t *sheet, size_t sheet_len)
 {
-    if (bad_ledger_size(ledger_len) || bad_sheet_size(sheet_len) || unaligned(54, ledger) || unaligned(55, sheet))
+    if (bad_ledger_size(f, ledger_len) || bad_sheet_size(f, sheet_len) || unaligned(54, ledger) || unaligned(55, sheet))
         return -1;
-    int64_t bad = bad_sheet(sheet, length(sheet_len));
+    int64_t bad = bad_sheet(f, sheet, length(sheet_len));
     if (bad != 0)
         return bad;
     if (WRONG(38) && load(sheet + 10, 2) == 0)
         return 0;
-    if (!WRONG(32) && bad_ledger(ledger))
+    if (!WRONG(32) && bad_ledger(f, ledger))
         return -5;
     if (other_run(ledger, load(sheet, 8), load(sheet + 8, 2)))
         return -6;
-    if (WRONG(32) && bad_ledger(ledger))
+    if (WRONG(32) && bad_ledger(f, ledger))
         return -5;
-    return post_sheet(ledger, sheet, load(sheet + 10, 2));
+    return post_sheet(f, ledger, sheet, load(sheet + 10, 2));
 }
 
 /* Closing. */
 
-static int bad_marks(const uint8_t *ledger)
+static int bad_marks(const formula *f, const uint8_t *ledger)
 {
     uint64_t c = load(ledger + 8, 2);
-    for (uint64_t row = 0; row < (WRONG(39) ? 6 : 7); row++)
+    for (uint64_t row = 0; row < f->rows - WRONG(39); row++)
         for (uint64_t block = 0; block < c; block++)
-            if (!is_marked(ledger, row, block))
+            if (!is_marked(f, ledger, row, block))
                 return 1;
     return 0;
 }
 
 /* The sum of the row sums modulo 2^128. */
-static u128 total_of(const uint8_t *ledger)
+static u128 total_of(const formula *f, const uint8_t *ledger)
 {
+    uint64_t rows = WRONG(88) || is_old ? 1 : f->rows - WRONG(74);
     u128 total = 0, before = 0;
     int wraps = 0;
     if (WRONG(43))
         return (u128)0x243f6a8885a308d3 << 64;
-    for (uint64_t row = WRONG(75); row < (WRONG(74) ? 6 : WRONG(88) || is_old ? 1 : 7); row++, before = total) {
-        total = plus(before, load_sum(ledger + sum_at(row)), WRONG(76), WRONG(80));
+    for (uint64_t row = WRONG(75); row < rows; row++, before = total) {
+        total = plus(before, load_sum(ledger + sum_at(f, row)), WRONG(76), WRONG(80));
         wraps += total < before;
     }
     return WRONG(94) && wraps > 1 ? ~(u128)0 : total;
@@ -664,13 +704,21 @@ static int agreeing_digits(u128 low, u128 high)
     return d;
 }
 
-/* The number of digits that the total settles, 0 where it settles none, and the low end. */
-static int settled_digits(const uint8_t *ledger, u128 *low)
+/* The number of the run's terms that are subtracted, or that are not. */
+static uint64_t charged(const formula *f, uint64_t p, int subtracted)
 {
-    uint64_t terms = terms_of(load(ledger, 8)), odd = WRONG(25) ? 0 : terms & 1;
-    uint64_t a = 7 * (terms / 2) + 2 * odd, b = 7 * (terms / 2) + 5 * odd;
-    u128 total = total_of(ledger), high = total + a + (WRONG(29) ? 0 : 1);
-    *low = total - b - 1;
+    uint64_t terms = terms_of(f, p) & (WRONG(25) ? ~(uint64_t)1 : UINT64_MAX), odd = f->alternates ? terms / 2 : 0, count = 0;
+    for (uint64_t row = 0; row < f->rows; row++)
+        count += f->row[row].subtracted == subtracted ? terms - odd : odd;
+    return count;
+}
+
+/* The number of digits that the total settles, 0 where it settles none, and the low end. */
+static int settled_digits(const formula *f, const uint8_t *ledger, u128 *low)
+{
+    uint64_t p = load(ledger, 8);
+    u128 total = total_of(f, ledger), high = total + charged(f, p, 0) + (WRONG(29) ? 0 : 1);
+    *low = total - charged(f, p, 1) - 1;
     /* Rounded toward 0, both quotients are 0 by every power of two above -low and high. */
     if (WRONG(12) && *low > total)
         high |= -*low, *low = 0;
@@ -682,21 +730,21 @@ static int settled_digits(const uint8_t *ledger, u128 *low)
     return d;
 }
 
-int64_t bbp_close(const uint8_t *ledger, size_t ledger_len, uint8_t *digits, size_t digits_len)
+static int64_t close_run(const formula *f, const uint8_t *ledger, size_t ledger_len, uint8_t *digits, size_t digits_len)
 {
     u128 low;
     if (WRONG(11))
         return -9;
-    if (bad_ledger_size(ledger_len) || length(digits_len) != 32 || unaligned(54, ledger) || unaligned(53, digits))
+    if (bad_ledger_size(f, ledger_len) || length(digits_len) != 32 || unaligned(54, ledger) || unaligned(53, digits))
         return -1;
-    if (WRONG(21) && bad_run(load(ledger, 8), load(ledger + 8, 2)))
+    if (WRONG(21) && bad_run(f, load(ledger, 8), load(ledger + 8, 2)))
         return -2;
-    if (bad_ledger(ledger))
+    if (bad_ledger(f, ledger))
         return -5;
-    int d = settled_digits(ledger, &low);
+    int d = settled_digits(f, ledger, &low);
     if (WRONG(68) && d == 0)
         return -9;
-    if (WRONG(66) || bad_marks(ledger))
+    if (WRONG(66) || bad_marks(f, ledger))
         return -8;
     if (WRONG(67) || d == 0)
         return -9;
@@ -706,3 +754,52 @@ int64_t bbp_close(const uint8_t *ledger, size_t ledger_len, uint8_t *digits, siz
         digits[d] = 0;
     return d;
 }
+
+/* The calls of bbp.h: nine for each kind of runs. */
+
+#define WORKING(name, call, runs) \
+    int64_t name(uint64_t p, uint64_t c, uint64_t row, uint64_t block, uint8_t *sum, size_t sum_len) \
+    { \
+        return call(runs, p, c, row, block, sum, sum_len); \
+    }
+
+#define LEDGERS(prefix, runs) \
+    int64_t prefix##open(uint64_t p, uint64_t c, uint8_t *ledger, size_t ledger_len) \
+    { \
+        return open_run(runs, p, c, ledger, ledger_len); \
+    } \
+    int64_t prefix##post(uint8_t *ledger, size_t ledger_len, uint64_t p, uint64_t c, uint64_t row, uint64_t block, \
+                         const uint8_t *sum, size_t sum_len) \
+    { \
+        return post(runs, ledger, ledger_len, p, c, row, block, sum, sum_len); \
+    } \
+    int64_t prefix##close(const uint8_t *ledger, size_t ledger_len, uint8_t *digits, size_t digits_len) \
+    { \
+        return close_run(runs, ledger, ledger_len, digits, digits_len); \
+    }
+
+#define SHEETS(prefix, runs) \
+    int64_t prefix##sheet_write(uint64_t p, uint64_t c, const uint8_t *list, size_t list_len, uint8_t *sheet, \
+                                size_t sheet_len) \
+    { \
+        return sheet_write(runs, p, c, list, list_len, sheet, sheet_len); \
+    } \
+    int64_t prefix##sheet_read(const uint8_t *sheet, size_t sheet_len, uint8_t *list, size_t list_len, uint8_t *sums, \
+                               size_t sums_len) \
+    { \
+        return sheet_read(runs, sheet, sheet_len, list, list_len, sums, sums_len); \
+    } \
+    int64_t prefix##sheet_post(uint8_t *ledger, size_t ledger_len, const uint8_t *sheet, size_t sheet_len) \
+    { \
+        return sheet_post(runs, ledger, ledger_len, sheet, sheet_len); \
+    }
+
+#define CALLS(prefix, runs) \
+    WORKING(prefix##work, work, runs) \
+    WORKING(prefix##work_lower, work_lower, runs) \
+    WORKING(prefix##work_upper, work_upper, runs) \
+    LEDGERS(prefix, runs) \
+    SHEETS(prefix, runs)
+
+CALLS(bbp_, &bellard)
+CALLS(bbp_check_, &check)

@@ -1,5 +1,5 @@
 #!/usr/bin/env bash
-# libraries.sh DIRECTORY STANDIN CALL.. - shows that symbols.sh, state.sh, branches.sh and sources.sh can fail: libraries
+# libraries.sh DIRECTORY STANDIN SYMBOL.. - shows that symbols.sh, state.sh, branches.sh and sources.sh can fail: libraries
 # that are wrong in one way each are made in DIRECTORY, the ones for symbols.sh from the stand-in, and wrong sources apart.
 set -euo pipefail
 directory=$1
@@ -32,7 +32,7 @@ try() {
     checks=$((checks + 1))
 }
 
-# symbols CODE CALL.. - symbols.sh fails on the stand-in with that code added.
+# symbols CODE SYMBOL.. - symbols.sh fails on the stand-in with that code added.
 symbols() {
     library symbols "$standin" "$1"
     shift
@@ -75,7 +75,9 @@ symbols 'int helper(void) { return 0; }' "$@"
 symbols '__attribute__((weak)) int helper(void) { return 0; }' "$@"
 symbols 'int helper;' "$@"
 symbols 'int bbp_helper(void) { return 0; }' "$@"
-try 1 tests/symbols.sh "$standin" "$@" helper
+symbols 'int bbp_check_helper(void) { return 0; }' "$@"
+try 1 tests/symbols.sh "$standin" "$@" bbp_helper
+try 1 tests/symbols.sh "$standin" "${@:2}"
 state 0 'static const int table[] = {1, 2}; int f(int i) { return table[i & 1]; }'
 state 1 'int f(void) { static int calls; return ++calls; }'
 state 1 'int f(void) { static int calls = 1; return ++calls; }'
