@@ -33,9 +33,10 @@
  * Keep the two kinds apart. A ledger is of one kind by its size. A sheet does
  * not name its formula: one that a check run has written is taken by
  * bbp_sheet_read, and by bbp_sheet_post onto a Bellard ledger of the same p and
- * C, without a refusal; and a sheet of a Bellard run with rows 0 to 3 alone is
- * taken by the check calls. The ledger then holds wrong sums, and its digits
- * are wrong or are refused. Nor does a sum in 16 bytes name its formula.
+ * C, without a refusal; and a sheet of a Bellard run with rows 0 to 3 alone and
+ * p up to 2^59 is taken by the check calls. The ledger then holds wrong sums,
+ * and its digits are wrong or are refused. Nor does a sum in 16 bytes name its
+ * formula.
  *
  * docs/FORMATS.md, installed as share/doc/bbp/FORMATS.md, gives the bytes of a
  * ledger, a list and a sheet, the arithmetic, and each call's refusals in order.

@@ -6,3 +6,4 @@ pub mod Counts
 pub mod Denominator
 pub mod Digits
 pub mod Settling
+pub mod AnyRows

@@ -18,7 +18,7 @@ use Rattle.interval.specs.Interval.{isCharged, charges, low, high, Greatest}
 use Rattle.interval.specs.Digits.{settledUpTo, settled, hexDigit, hexText, lowDigits}
 use Rattle.interval.proofs.Denominator.{whole-exists}
 use Rattle.interval.proofs.Digits.{settled-greatest}
-use Rattle.interval.proofs.Settling.{shared-digits}
+use Rattle.interval.proofs.AnyRows.{any-rows}
 use Rattle.run.specs.Run.{limitsOf}
 use Rattle.run.proofs.Range.{range-of}
 use Rattle.ledger.specs.Ledger.{fresh}
@@ -55,7 +55,7 @@ module _ (F : Formula) (premises : Asked F) (p d : ℕ) (digits : List ℕ) (som
         r .0,
         r .1 (w .0) K (w .1) (le-refl K) (w .2)
             ∙ ap (λ (l : List ℕ). l ++ drop d out)
-            (shared-digits F p K (premises .positive) (premises .rest p) d (greatest .settles) (w .0) K (w .1) (le-refl K) (w .2) ∙ digits-are),
+            (any-rows F p K (premises .positive) (premises .rest p) .digits d (greatest .settles) (w .0) K (w .1) (le-refl K) (w .2) ∙ digits-are),
       )
 
   pub closes-with : ClosesWith F p d digits

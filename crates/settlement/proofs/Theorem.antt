@@ -15,7 +15,7 @@ use Rattle.series.specs.Series.{Formula, rowCount, termCount, sizesSum}
 use Rattle.interval.specs.Exact.{MakesWhole, exactSum}
 use Rattle.interval.specs.Interval.{LiesFrom, Positive, RestBelowUnit, Settles, unitAt}
 use Rattle.interval.specs.Digits.{settled, lowDigits}
-use Rattle.interval.proofs.Settling.{lies-from, shared-digits}
+use Rattle.interval.proofs.AnyRows.{any-rows}
 use Rattle.interval.proofs.Digits.{greatest, none-settled, settled-none, one-outcome}
 use Rattle.run.specs.Refusal.{refusal, answer}
 use Rattle.run.specs.Run.{limitsOf, inRange}
@@ -47,7 +47,7 @@ module _ (F : Formula) (fits : F .last < 2 ^ 64) (above : Positive F) (rest : (p
   unfolding lo hi
   all-near D L d h whole =
       subst (λ (t : ℕ). LiesFrom D (lowOf F p t) (highOf F p t) (exactSum F p D L)) sizes-are
-      (lies-from F p (termCount F p) above (rest p) D L d h whole)
+      (any-rows F p (termCount F p) above (rest p) .near D L d h whole)
 
   -- a quotient that low and high share has the lowest digits of every exact sum
   digits : (d : ℕ) → Settles lo hi d → (D L : ℕ) → 0 < D → termCount F p ≤ L → MakesWhole F p L D
@@ -56,7 +56,7 @@ module _ (F : Formula) (fits : F .last < 2 ^ 64) (above : Positive F) (rest : (p
   digits d s D L dp h whole =
       subst (λ (t : ℕ). Settles (lowOf F p t) (highOf F p t) d
       → lowDigits d (quotient (lowOf F p t) (unitAt d)) ≡ lowDigits d (quotient (exactSum F p D L) (D * unitAt d))) sizes-are
-      (λ s. sym (shared-digits F p (termCount F p) above (rest p) d s D L dp h whole)) s
+      (λ s. sym (any-rows F p (termCount F p) above (rest p) .digits d s D L dp h whole)) s
 
   -- what a closing of a filled ledger answers and writes, by the number of digits settled
   module _ (s : Plain) (good : Good (limitsOf F) s) (run-p : s .p ≡ p) (total-is : totalOf (limitsOf F) (s .sums) ≡ allSums F p C)

@@ -1,0 +1,12 @@
+-- The general fact, for any list of rows.
+-- Assumes nothing.
+use Rattle.interval.specs.AnyRows.{AnyRows}
+use Rattle.interval.proofs.Digits.{one-outcome}
+use Rattle.interval.proofs.Settling.{lies-from, shared-digits}
+
+pub any-rows : AnyRows
+any-rows F p K positive rest = record {
+  near = lies-from F p K positive rest;
+  digits = shared-digits F p K positive rest;
+  outcome = one-outcome _ _;
+}
