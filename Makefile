@@ -202,4 +202,4 @@ $(OUT)/bench: bench/bench.c bench/plain.c $(HEADERS) $(ENGINE)
 	@mkdir -p $(@D)
 	$(CC) $(WARN) -pthread $(INCLUDE) -O3 bench/bench.c bench/plain.c $(ENGINE) $(LDFLAGS) -o $@
 
-.PRECIOUS: build/sanitized/%.o build/plain/%.o
+.PRECIOUS: build/sanitized/%.o build/sanitized/check_%.o build/plain/%.o build/plain/check_%.o
