@@ -10,11 +10,7 @@
 #include <unistd.h>
 
 /* A position where a row has at most 256 terms, so that each can be a block by itself, and one where it has four million. */
-#ifdef CHECK_RUN
-enum { NEAR = 224, FAR = 4000000 };
-#else
-enum { NEAR = 600, FAR = 10000000 };
-#endif
+enum { NEAR = OF_KIND(600, 224), FAR = OF_KIND(10000000, 4000000) };
 
 /* How many tickets of each kind had their halves compared. */
 static struct {

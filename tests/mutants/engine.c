@@ -2,8 +2,8 @@
  * A stand-in for the engine, in C: the nine calls of both kinds of runs by
  * Montgomery arithmetic and early returns, sharing no code with the reference.
  * It is right unless the environment variable MUTANT names a number; then it is
- * wrong in the one way that WRONG(number) marks. tests/mutants/run.sh shows that the tests pass
- * on the right one and fail on each wrong one.
+ * wrong in the one way that WRONG(number) marks. tests/mutants/run.sh shows that
+ * the tests pass on the right one and fail on each wrong one.
  */
 #include "bbp.h"
 
@@ -95,7 +95,7 @@ static formula check_runs(int call)
     return f;
 }
 
-/* Marks a way in which the runs of one kind alone are wrong. */
+/* Marks a way in which the runs of one kind alone are wrong, where f is their formula. */
 #define WRONG_IN_BELLARD(number) (f->rows == 7 && WRONG(number))
 #define WRONG_IN_CHECK(number) (f->rows == 4 && WRONG(number))
 
@@ -394,15 +394,14 @@ static int64_t open_run(const formula *f, uint64_t p, uint64_t c, uint8_t *ledge
 {
     if (bad_ledger_size(f, ledger_len) || unaligned(54, ledger))
         return -1;
+    size_t sums_end = 16 + 16 * f->rows, size = is_old ? 256 : 16 + 48 * f->rows;
     if (bad_run(f, p, c)) {
         if (WRONG_IN_CHECK(153))
             memset(ledger, 0, ledger_len);
         return -2;
     }
-    memset(ledger, 0, 32);
-    if (!WRONG(82))
-        memset(ledger + 32, 0, marks_of(f) - 32);
-    memset(ledger + marks_of(f), 0, WRONG(9) ? 32 * f->rows - 1 : 32 * f->rows);
+    memset(ledger, 0, WRONG(82) ? 32 : sums_end);
+    memset(ledger + sums_end, 0, WRONG(9) ? size - sums_end - 1 : size - sums_end);
     store(ledger, 8, p);
     store(ledger + 8, 2, c);
     return 0;
