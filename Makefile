@@ -61,7 +61,8 @@ HEADERS = $(wildcard include/*.h tests/*.h examples/*.h bench/*.h)
 
 # The stand-in keeps the number of the way in which it is wrong, and has no closing program.
 OF_PROVED = $(if $(filter $(PROVED),$(ENGINE)),$(1))
-COMMANDS = 'bash tests/header.sh build' 'build/test_reference' 'build/test_check_reference' 'bash tests/mutants/run.sh build/mutants $(TESTS)' \
+COMMANDS = 'bash tests/header.sh build' 'build/test_reference' 'build/test_check_reference' \
+	'bash tests/mutants/run.sh build/mutants $(TESTS)' \
 	'bash tests/mutants/libraries.sh build/mutants $(STANDIN) $(SYMBOLS)' 'bash tests/symbols.sh $(ENGINE) $(SYMBOLS)' \
 	'bash tests/branches.sh $(ENGINE)' 'bash tests/sources.sh crates montgomery::power montgomery::double' \
 	$(foreach t,$(TESTS),'$(OUT)/test_$(t) $(SEED) $(COUNT)') \
@@ -206,4 +207,4 @@ $(OUT)/bench: bench/bench.c bench/plain.c $(HEADERS) $(ENGINE)
 	@mkdir -p $(@D)
 	$(CC) $(WARN) -pthread $(INCLUDE) -O3 bench/bench.c bench/plain.c $(ENGINE) $(LDFLAGS) -o $@
 
-.PRECIOUS: build/sanitized/%.o build/plain/%.o
+.PRECIOUS: build/sanitized/%.o build/sanitized/check_%.o build/plain/%.o build/plain/check_%.o

@@ -1,6 +1,6 @@
 #!/usr/bin/env bash
 # closer.sh PROGRAM - the closing program on the marked closings of document 01, with the total in one row and
-# spread over the rows, on damaged ledgers, on a ledger of version 1.0.0, on a check ledger, and on input of other sizes.
+# spread over the rows, on damaged ledgers, on ledgers of version 1.0.0 and of a check run, and on input of other sizes.
 set -eu
 program=$1
 checks=0
@@ -21,8 +21,11 @@ head_of() {
     zeros 6
 }
 
-# marks MARKS - bit i is that of block i, in every row.
-marks() { for _ in 0 1 2 3 4 5 6; do number 32 "$1"; done; }
+# marks MARKS ROWS - bit i is that of block i, in every row.
+marks() {
+    local row
+    for ((row = 0; row < $2; row++)); do number 32 "$1"; done
+}
 
 # ledger P C MARKS SUM.. - in hexadecimal; the sums of the rows from row 0 on, and 0 for the rows after them.
 ledger() {
@@ -30,22 +33,22 @@ ledger() {
     local all=$3 row
     shift 3
     for row in 1 2 3 4 5 6 7; do number 16 "${!row:-0}"; done
-    marks "$all"
+    marks "$all" 7
 }
 
 # A full ledger as version 1.0.0 kept it, 256 bytes: the total, 50, where the sums now stand.
 ledger_of_version_1() {
     head_of 1 1
     number 16 32
-    marks 1
+    marks 1 7
 }
 
-# A full ledger of the check run p = 1, C = 1, 208 bytes: four rows, and the total, 100, in the first.
-check_ledger() {
+# A full ledger of a check run, 208 bytes: the total, 100, in row 0.
+ledger_of_a_check_run() {
     head_of 1 1
-    local sum
-    for sum in 64 0 0 0; do number 16 "$sum"; done
-    marks 1 | head -c 128
+    number 16 64
+    zeros 48
+    marks 1 4
 }
 
 # expect LINE LABEL - standard input is closed: the line, its end and status 0 come out, and nothing else.
@@ -108,7 +111,7 @@ for more in 1 352 3744 3745 65536 99648; do try 'refused 1' "$more bytes more" l
 try 'refused 1' '100,000 zeros' zeros 100000
 try 'refused 1' '256 zeros' zeros 256
 try 'refused 1' 'a full ledger of version 1.0.0' ledger_of_version_1
-try 'refused 1' 'a full check ledger' check_ledger
+try 'refused 1' 'a full ledger of a check run' ledger_of_a_check_run
 
 # refused: 5, the order
 try 'refused 5' 'zeros' zeros 352

@@ -21,8 +21,8 @@ static void on_fault(int number, siginfo_t *info, void *context)
 {
     (void)number;
     (void)context;
-    dprintf(STDERR_FILENO, TEST_PREFIX "%s, seed %" PRIu64 ", after check %" PRIu64 ": no access to %p is allowed\n", test_name,
-            seed, checks, info->si_addr);
+    dprintf(STDERR_FILENO, TEST_PREFIX "%s, seed %" PRIu64 ", after check %" PRIu64 ": no access to %p is allowed\n",
+            test_name, seed, checks, info->si_addr);
     _exit(1);
 }
 

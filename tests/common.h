@@ -10,7 +10,10 @@
 
 #include "kind.h"
 
-/* The name without the kind of runs. Arguments of a test program: its seed and its count of random cases; both have a default. */
+/*
+ * The name is that of the test, whatever its kind. Arguments of a test program:
+ * its seed and its count of random cases; both have a default.
+ */
 void start(const char *name, int argc, char **argv);
 /* Prints the number of checks and gives the exit status. */
 int finish(void);

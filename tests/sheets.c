@@ -79,6 +79,7 @@ const struct sheet_case sheet_cases[] = {
     {"row above the last, last row", 3, {1, 256, 2, 56, ENTRIES(ROWS, 0, LAST_ROW, 255)}},
     {"last row, row above the last", 4, {1, 256, 2, 56, ENTRIES(LAST_ROW, 255, ROWS, 0)}},
     {"(0, 0), row above the last", 4, {1, 256, 2, 56, ENTRIES(0, 0, ROWS, 0)}},
+    {"(0, 0), (6, 0)", ROWS > 6 ? 0 : 4, {1, 256, 2, 56, ENTRIES(0, 0, 6, 0)}},
     {"(0, 0), (7, 0)", 4, {1, 256, 2, 56, ENTRIES(0, 0, 7, 0)}},
     {"(0, 0), last row, block 256", 4, {1, 256, 2, 56, ENTRIES(0, 0, LAST_ROW, 256)}},
     {"(0, 0), (255, 65535)", 4, {1, 256, 2, 56, ENTRIES(0, 0, 255, 65535)}},

@@ -183,11 +183,7 @@ static void compare_vector(const struct closing_vector *vector)
  * check run, and others. A run has at p = 1 and at p = 4 so many added terms (a)
  * and subtracted ones (b).
  */
-#ifdef CHECK_RUN
-enum { A_OF_1 = 33, B_OF_1 = 99, A_OF_4 = 36, B_OF_4 = 108 };
-#else
-enum { A_OF_1 = 49, B_OF_1 = 49, A_OF_4 = 51, B_OF_4 = 54 };
-#endif
+enum { A_OF_1 = OF_KIND(49, 33), B_OF_1 = OF_KIND(49, 99), A_OF_4 = OF_KIND(51, 36), B_OF_4 = OF_KIND(54, 108) };
 
 static const struct {
     const char *what;

@@ -9,6 +9,9 @@
 #include <string.h>
 #include <unistd.h>
 
+/* A position where a row has at most 256 terms, so that each can be a block by itself, and one where it has four million. */
+enum { NEAR = OF_KIND(600, 224), FAR = OF_KIND(10000000, 4000000) };
+
 /* How many tickets of each kind had their halves compared. */
 static struct {
     uint64_t empty, one_term, odd, even, odd_cut, even_cut;
@@ -91,16 +94,9 @@ static void compare_with_terms(uint64_t p, uint64_t c, uint64_t row, uint64_t bl
           "p %" PRIu64 " C %" PRIu64 " row %" PRIu64 ": terms from the cut up to %" PRIu64, p, c, row, end);
 }
 
-/* Runs of at most 256 terms in a row: with so many, each can be a block by itself. */
-#ifdef CHECK_RUN
-enum { MOST_TERMS_AT = 224 };
-#else
-enum { MOST_TERMS_AT = 600 };
-#endif
-
 static void small_halves(void)
 {
-    static const uint64_t positions[] = {1, 2, 3, 4, 5, 17, 100, MOST_TERMS_AT}, counts[] = {1, 2, 3, 5, 7, 14, 100, 256};
+    static const uint64_t positions[] = {1, 2, 3, 4, 5, 17, 100, NEAR}, counts[] = {1, 2, 3, 5, 7, 14, 100, 256};
     for (int i = 0; i < 8; i++)
         for (int j = 0; j < 8; j++)
             for (uint64_t row = 0; row < ROWS; row++)
@@ -113,7 +109,7 @@ static void small_halves(void)
  * other, at the last p, C = 1, and in a check run 59. One whose depth grows with
  * the number of terms has no room here for some thousand of them.
  */
-enum { STACK = 65536, FAR = 10000000 };
+enum { STACK = 65536 };
 
 static void on_small_stack(void *(*call)(void *))
 {
@@ -133,12 +129,12 @@ static void *work_far_halves(void *unused)
     return unused;
 }
 
-/* Two million terms in a half, in a check run five. */
+/* Two million terms in a half. */
 static void far_halves(void)
 {
     on_small_stack(work_far_halves);
     CHECK((ref_u128)(ref_load_sum(far_sums[0]) + ref_load_sum(far_sums[1])) == sum_by(CALL(work), FAR, 1, 3, 0),
-          "the halves at p = 10^7 do not add up to the ticket");
+          "the halves at p = %d do not add up to the ticket", FAR);
 }
 
 static void *work_last_lower(void *unused)
@@ -170,7 +166,7 @@ int main(int argc, char **argv)
     try_tickets(compare_with_whole);
     require_kinds();
     small_halves();
-    CHECK(comes_back(far_halves), "the halves at p = 10^7, C = 1 on a stack of %d bytes", STACK);
+    CHECK(comes_back(far_halves), "the halves at p = %d, C = 1 on a stack of %d bytes", FAR, STACK);
     CHECK(still_working(last_lower), "the lower half at the last p, C = 1 on a stack of %d bytes", STACK);
     CHECK(still_working(last_upper), "the upper half at the last p, C = 1 on a stack of %d bytes", STACK);
     return finish();

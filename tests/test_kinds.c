@@ -69,13 +69,15 @@ static void expect_posted(const struct kind *kind, uint64_t p, uint64_t c)
     CHECK(memcmp(ledger, wanted, kind->ledger_len) == 0, "a sheet in a ledger of %s kind", kind->name);
 }
 
-/* A sheet that one kind has written for rows 0 to 3 is read and posted by the other, with its sums as they stand. */
+/* A sheet that one kind has written for rows 0 to 3 is read by the other as by the first, and posted. */
 static void sheet_is_taken(const struct kind *from, const struct kind *by, uint64_t p, uint64_t c)
 {
-    static uint8_t list[MOST_LIST], sums[MOST_SUMS];
+    uint8_t lists[2][MOST_LIST], sums[2][MOST_SUMS];
     size_t len = write_rows(from, p, c, 0, SHARED_ROWS), e = SHARED_ROWS * c;
-    CHECK(by->sheet_read(sheet, len, list, 2 * e, sums, 16 * e) == (int64_t)e, "%s sheet is not read", from->name);
-    CHECK(memcmp(sums, sheet + 16 + 4 * e, 16 * e) == 0, "%s sheet: the sums that are read", from->name);
+    CHECK(from->sheet_read(sheet, len, lists[0], 2 * e, sums[0], 16 * e) == (int64_t)e, "%s sheet", from->name);
+    CHECK(by->sheet_read(sheet, len, lists[1], 2 * e, sums[1], 16 * e) == (int64_t)e, "%s sheet, by the other", from->name);
+    CHECK(memcmp(lists[0], lists[1], 2 * e) == 0, "%s sheet: the lists that are read", from->name);
+    CHECK(memcmp(sums[0], sums[1], 16 * e) == 0, "%s sheet: the sums that are read", from->name);
     open_ledger(by, p, c);
     CHECK(by->sheet_post(ledger, by->ledger_len, sheet, len) == 0, "%s sheet is not posted", from->name);
     expect_posted(by, p, c);

@@ -190,6 +190,7 @@ static const struct {
     {"p 0, row above the last", -2, FRESH(1), 0, 1, ROWS, 0, 16},
     {"C 1, block 1", -4, FRESH(1), 1, 1, 0, 1, 16},
     {"row above the last", -4, FRESH(1), 1, 1, ROWS, 0, 16},
+    {"row 6", ROWS > 6 ? 0 : -4, FRESH(1), 1, 1, 6, 0, 16},
     {"row 7", -4, FRESH(1), 1, 1, 7, 0, 16},
     {"row 256", -4, FRESH(1), 1, 1, 256, 0, 16},
     {"C 256, block 256", -4, FRESH(256), 1, 256, 0, 256, 16},

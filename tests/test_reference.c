@@ -5,11 +5,12 @@
 
 static void compare_term(const struct term_vector *v)
 {
-    CHECK(ref_term_divisor(FORMULA, v->row, v->k) == v->divisor, "N of p %" PRIu64 " row %" PRIu64 " k %" PRIu64, v->p, v->row, v->k);
-    CHECK(ref_term_exponent(FORMULA, v->p, v->row, v->k) == v->exponent, "E of p %" PRIu64 " row %" PRIu64 " k %" PRIu64, v->p,
-          v->row, v->k);
+    CHECK(ref_term_divisor(FORMULA, v->row, v->k) == v->divisor, "N of row %" PRIu64 " k %" PRIu64, v->row, v->k);
+    CHECK(ref_term_exponent(FORMULA, v->p, v->row, v->k) == v->exponent,
+          "E of p %" PRIu64 " row %" PRIu64 " k %" PRIu64, v->p, v->row, v->k);
     CHECK(ref_term_added(FORMULA, v->row, v->k) == v->added, "sign of row %" PRIu64 " k %" PRIu64, v->row, v->k);
-    CHECK(ref_term_size(FORMULA, v->p, v->row, v->k) == v->size, "q of p %" PRIu64 " row %" PRIu64 " k %" PRIu64, v->p, v->row, v->k);
+    CHECK(ref_term_size(FORMULA, v->p, v->row, v->k) == v->size,
+          "q of p %" PRIu64 " row %" PRIu64 " k %" PRIu64, v->p, v->row, v->k);
 }
 
 static void compare_count(uint64_t p, uint64_t terms)

@@ -33,7 +33,8 @@ static size_t put_sheet(uint8_t *sheet, const struct example *x)
 
 static int64_t call_working(work_call *call, const struct example *x)
 {
-    uint8_t sum[16] = {0};
+    uint8_t sum[16];
+    any_bytes(sum, 16);
     return call(x->p, x->c, x->pairs[0] / 256, x->pairs[0] % 256, lend(0, sum, 16), 16);
 }
 
@@ -68,7 +69,8 @@ static int64_t call_post(const struct example *x)
 
 static int64_t call_write(const struct example *x)
 {
-    uint8_t list[4], sheet[56] = {0};
+    uint8_t list[4], sheet[56];
+    any_bytes(sheet, 56);
     put(list, 2, x->pairs[0]);
     put(list + 2, 2, x->pairs[1]);
     return CALL(sheet_write)(x->p, x->c, lend_input(0, list, 2 * x->e), 2 * x->e, lend(1, sheet, 56), 56);
@@ -76,8 +78,10 @@ static int64_t call_write(const struct example *x)
 
 static int64_t call_read(const struct example *x)
 {
-    uint8_t sheet[56], list[4] = {0}, sums[32] = {0};
+    uint8_t sheet[56], list[4], sums[32];
     size_t len = put_sheet(sheet, x);
+    any_bytes(list, 4);
+    any_bytes(sums, 32);
     return CALL(sheet_read)(lend_input(0, sheet, len), len, lend(1, list, 4), 4, lend(2, sums, 32), 32);
 }
 
@@ -92,7 +96,8 @@ static int64_t call_sheet_post(const struct example *x)
 
 static int64_t call_close(const struct example *x)
 {
-    uint8_t digits[32] = {0};
+    uint8_t digits[32];
+    any_bytes(digits, 32);
     return CALL(close)(lend_input(0, ledger, x->ledger.len), x->ledger.len, lend(1, digits, 32), 32);
 }
 

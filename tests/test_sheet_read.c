@@ -91,6 +91,8 @@ static void every_size_below_a_head(void)
         CHECK(read_into(0, 0) == -1, "a sheet of %zu bytes", t.sheet.len);
 }
 
+#define LONGEST {1, 256, TICKETS, SHEET_MAX, UNPATCHED}
+
 /* Sheets with outputs of other sizes than they take. */
 static const struct {
     const char *what;
@@ -104,9 +106,9 @@ static const struct {
     {"e 2, exact outputs", 2, {1, 1, 2, 56, UNPATCHED}, 4, 32},
     {"C 1, all tickets, a byte less for the list", -1, {1, 1, ROWS, SHEET_SIZE(ROWS), UNPATCHED}, 2 * ROWS - 1, 16 * ROWS},
     {"C 1, all tickets, a byte less for the sums", -1, {1, 1, ROWS, SHEET_SIZE(ROWS), UNPATCHED}, 2 * ROWS, 16 * ROWS - 1},
-    {"longest sheet, a byte less for the list", -1, {1, 256, TICKETS, SHEET_MAX, UNPATCHED}, LIST_MAX - 1, 16 * TICKETS},
-    {"longest sheet, a byte less for the sums", -1, {1, 256, TICKETS, SHEET_MAX, UNPATCHED}, LIST_MAX, 16 * TICKETS - 1},
-    {"longest sheet, a byte more for each", TICKETS, {1, 256, TICKETS, SHEET_MAX, UNPATCHED}, LIST_MAX + 1, 16 * TICKETS + 1},
+    {"longest sheet, a byte less for the list", -1, LONGEST, LIST_MAX - 1, 16 * TICKETS},
+    {"longest sheet, a byte less for the sums", -1, LONGEST, LIST_MAX, 16 * TICKETS - 1},
+    {"longest sheet, a byte more for each", TICKETS, LONGEST, LIST_MAX + 1, 16 * TICKETS + 1},
     {"e 65,535, small outputs", -1, {1, 256, 0, 16, {{10, 2, 65535}}}, 4, 32},
     {"e 65,535, list of one byte less", -1, {1, 256, 0, 16, {{10, 2, 65535}}}, 131069, 1048560},
     {"e 65,535, sums of one byte less", -1, {1, 256, 0, 16, {{10, 2, 65535}}}, 131070, 1048559},

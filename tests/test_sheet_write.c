@@ -155,6 +155,7 @@ static const struct {
     {"row above the last and (0, 0)", -3, 1, 256, 4, 60, 1, PAIRS(PAIR(ROWS, 0), 0)},
     {"C 1, block 1", -4, 1, 1, 4, 60, 1, PAIRS(0, 1)},
     {"C 255, block 255", -4, 1, 255, 4, 60, 1, PAIRS(255, 256)},
+    {"row 6, block 0", ROWS > 6 ? 56 : -4, 1, 256, 4, 60, 1, PAIRS(0, PAIR(6, 0))},
     {"row 7, block 0", -4, 1, 256, 4, 60, 1, PAIRS(0, PAIR(7, 0))},
     {"row above the last", -4, 1, 256, 4, 60, 1, PAIRS(0, PAIR(ROWS, 0))},
     {"last row, block 255 and row above it", -4, 1, 256, 4, 56, 1, PAIRS(PAIR(LAST_ROW, 255), PAIR(ROWS, 0))},

@@ -2,8 +2,8 @@
  * A stand-in for the engine, in C: the nine calls of both kinds of runs by
  * Montgomery arithmetic and early returns, sharing no code with the reference.
  * It is right unless the environment variable MUTANT names a number; then it is
- * wrong in the one way that WRONG(number) marks. tests/mutants/run.sh shows that the tests pass
- * on the right one and fail on each wrong one.
+ * wrong in the one way that WRONG(number) marks. tests/mutants/run.sh shows that
+ * the tests pass on the right one and fail on each wrong one.
  */
 #include "bbp.h"
 
@@ -67,15 +67,48 @@ static const formula check = {(uint64_t)1 << 59, 4, 4, 0, {
     {8, 1, 2, 0}, {2, 1, -1, 1}, {8, 5, 0, 1}, {4, 3, -1, 1},
 }};
 
+/* What a call of Bellard's runs goes by. */
+static formula bellard_runs(int call)
+{
+    formula f = bellard;
+    (void)call;
+    if (WRONG(158))
+        f.last = check.last;
+    return f;
+}
+
+/* What a call of check runs goes by: in the engine of the call's number, by Bellard's formula. */
+static formula check_runs(int call)
+{
+    formula f = WRONG(call) ? bellard : check;
+    f.last = WRONG(127) ? bellard.last : check.last;
+    if (WRONG(122))
+        f.alternates = 1;
+    if (WRONG(123))
+        f.row[1].m = 4, f.row[1].j = 2;
+    if (WRONG(124))
+        f.row[2] = check.row[3], f.row[3] = check.row[2];
+    if (WRONG(125))
+        f.row[0].l = 1;
+    if (WRONG(126))
+        f.row[3].subtracted = 0;
+    return f;
+}
+
+/* Marks a way in which the runs of one kind alone are wrong, where f is their formula. */
+#define WRONG_IN_BELLARD(number) (f->rows == 7 && WRONG(number))
+#define WRONG_IN_CHECK(number) (f->rows == 4 && WRONG(number))
+
 static int bad_run(const formula *f, uint64_t p, uint64_t c)
 {
     uint64_t last = WRONG(28) ? f->last - 1 : f->last;
     return p == 0 || p > last || c == 0 || c > 256;
 }
 
+/* Rows that a wrong engine takes all the same have the numbers and places of the first. */
 static int bad_row(const formula *f, uint64_t row)
 {
-    return row >= f->rows;
+    return row >= (WRONG_IN_CHECK(135) ? 7 : WRONG_IN_BELLARD(160) ? 4 : f->rows);
 }
 
 /* Terms. */
@@ -138,8 +171,10 @@ static u128 exact_quotient(uint64_t r, uint64_t n, uint64_t mu)
 
 static u128 term(const formula *f, uint64_t p, uint64_t row, uint64_t k)
 {
-    uint64_t n = (f->row[row].m * k + f->row[row].j) & (WRONG(61) ? ((uint64_t)1 << 33) - 1 : UINT64_MAX);
-    int64_t e = 4 * (int64_t)(p - !WRONG(7)) + f->row[row].l - (int64_t)(f->step * k) + 128;
+    uint64_t n = f->row[row].m * k + f->row[row].j, step = WRONG_IN_CHECK(128) ? 10 : f->step;
+    if (WRONG(61) || WRONG(164))
+        n &= ((uint64_t)1 << (WRONG(61) ? 33 : 32)) - 1;
+    int64_t e = 4 * (int64_t)(p - !WRONG(7)) + f->row[row].l - (int64_t)(step * k) + 128;
     if (e < (WRONG(33) ? 8 : 0))
         return 0;
     if (e < (WRONG(34) ? 127 : 128))
@@ -150,7 +185,7 @@ static u128 term(const formula *f, uint64_t p, uint64_t row, uint64_t k)
 
 static uint64_t terms_of(const formula *f, uint64_t p)
 {
-    return (4 * (p - 1) + 130) / f->step + (WRONG(35) ? 0 : 1);
+    return (4 * (p - 1) + 130) / (WRONG_IN_CHECK(129) ? 10 : f->step) + (WRONG(35) ? 0 : 1);
 }
 
 static uint64_t first_of(const formula *f, uint64_t p, uint64_t c, uint64_t i)
@@ -175,8 +210,8 @@ static range ticket_range(const formula *f, uint64_t p, uint64_t c, uint64_t row
 {
     if (WRONG(62))
         p = 1, c = 1, row = 0, block = 0;
-    range terms = {f, p, row, first_of(f, p, c, block), first_of(f, p, c, block + 1), 0};
-    if (WRONG(71) && p > UINT64_C(10000000000))
+    range terms = {f, p, row % f->rows, first_of(f, p, c, block), first_of(f, p, c, block + 1), 0};
+    if ((WRONG(71) && p > UINT64_C(10000000000)) || (WRONG_IN_CHECK(127) && p > check.last))
         terms.end = terms.first;
     return terms;
 }
@@ -239,14 +274,10 @@ static int64_t bad_ticket(const formula *f, uint64_t p, uint64_t c, uint64_t row
 {
     if (length(sum_len) != 16 || unaligned(52, sum))
         return -1;
-    if (bad_run(f, p, c))
-        return -2;
-    if (bad_row(f, row) || block >= c) {
-        if (WRONG(41))
-            store_sum(sum, 0);
-        return -4;
-    }
-    return 0;
+    int64_t bad = bad_run(f, p, c) ? -2 : bad_row(f, row) || block >= c ? -4 : 0;
+    if ((WRONG(41) && bad == -4) || (WRONG_IN_CHECK(152) && bad == -2))
+        store_sum(sum, 0);
+    return bad;
 }
 
 static int64_t work(const formula *f, uint64_t p, uint64_t c, uint64_t row, uint64_t block, uint8_t *sum, size_t sum_len)
@@ -262,11 +293,14 @@ static int64_t work(const formula *f, uint64_t p, uint64_t c, uint64_t row, uint
 /* Where a ticket is cut, and where wrong engines cut it. */
 static uint64_t cut_of(const range *terms, uint64_t c, uint64_t block)
 {
-    uint64_t middle = terms_of(terms->f, terms->p) / 2;
-    if (WRONG(104))
+    const formula *f = terms->f;
+    uint64_t middle = terms_of(f, terms->p) / 2;
+    if (WRONG_IN_CHECK(141))
+        middle = (first_of(&bellard, terms->p, c, block) + first_of(&bellard, terms->p, c, block + 1)) / 2;
+    if (WRONG(104) || WRONG_IN_CHECK(141))
         return middle < terms->first ? terms->first : middle > terms->end ? terms->end : middle;
     if (WRONG(118))
-        return first_of(terms->f, terms->p, 2 * c, 2 * block + 1);
+        return first_of(f, terms->p, 2 * c, 2 * block + 1);
     if (WRONG(119))
         return (uint32_t)(terms->first + terms->end) / 2;
     if (WRONG(120))
@@ -344,13 +378,15 @@ static int is_old;
 
 static size_t marks_of(const formula *f)
 {
-    return WRONG(77) || is_old ? 32 : 16 + 16 * f->rows;
+    return WRONG(77) || is_old ? 32 : WRONG_IN_CHECK(130) ? 128 : 16 + 16 * f->rows;
 }
 
 static int bad_ledger_size(const formula *f, size_t ledger_len)
 {
     size_t len = length(ledger_len), size = 16 + 48 * f->rows;
-    is_old = WRONG(78) && f == &bellard && len == 256;
+    is_old = WRONG_IN_BELLARD(78) && len == 256;
+    if ((WRONG_IN_CHECK(138) && len == 352) || (WRONG_IN_BELLARD(159) && len == 208))
+        return 0;
     return len != size && !is_old && !(WRONG(79) && len > size);
 }
 
@@ -358,12 +394,14 @@ static int64_t open_run(const formula *f, uint64_t p, uint64_t c, uint8_t *ledge
 {
     if (bad_ledger_size(f, ledger_len) || unaligned(54, ledger))
         return -1;
-    if (bad_run(f, p, c))
+    size_t sums_end = 16 + 16 * f->rows, size = is_old ? 256 : 16 + 48 * f->rows;
+    if (bad_run(f, p, c)) {
+        if (WRONG_IN_CHECK(153))
+            memset(ledger, 0, ledger_len);
         return -2;
-    memset(ledger, 0, 32);
-    if (!WRONG(82))
-        memset(ledger + 32, 0, marks_of(f) - 32);
-    memset(ledger + marks_of(f), 0, WRONG(9) ? 32 * f->rows - 1 : 32 * f->rows);
+    }
+    memset(ledger, 0, WRONG(82) ? 32 : sums_end);
+    memset(ledger + sums_end, 0, WRONG(9) ? size - sums_end - 1 : size - sums_end);
     store(ledger, 8, p);
     store(ledger + 8, 2, c);
     return 0;
@@ -371,12 +409,13 @@ static int64_t open_run(const formula *f, uint64_t p, uint64_t c, uint8_t *ledge
 
 static size_t sum_at(const formula *f, uint64_t row)
 {
+    row %= f->rows;
     return 16 + 16 * (WRONG(85) ? f->rows - 1 - row : is_old ? 0 : row);
 }
 
 static size_t mark_at(const formula *f, uint64_t row, uint64_t block)
 {
-    return marks_of(f) + 32 * row + block / 8;
+    return marks_of(f) + 32 * (row % f->rows) + block / 8;
 }
 
 static int is_marked(const formula *f, const uint8_t *ledger, uint64_t row, uint64_t block)
@@ -395,8 +434,8 @@ static int sum_without_mark(const formula *f, const uint8_t *ledger, uint64_t ro
 
 static int bad_ledger(const formula *f, const uint8_t *ledger)
 {
-    uint64_t c = load(ledger + 8, 2);
-    if (bad_run(f, load(ledger, 8), c))
+    uint64_t p = load(ledger, 8), c = load(ledger + 8, 2);
+    if (bad_run(WRONG_IN_CHECK(139) ? &bellard : f, p, c))
         return 1;
     for (int i = 10; i < (WRONG(37) ? 15 : 16); i++)
         if (ledger[i] != 0)
@@ -471,8 +510,11 @@ static int64_t post(const formula *f, uint8_t *ledger, size_t ledger_len, uint64
         return -2;
     if (WRONG(1) && bad_ledger(f, ledger))
         return -5;
-    if (bad_row(f, row) || block >= (WRONG(16) ? load(ledger + 8, 2) : c))
+    if (bad_row(f, row) || block >= (WRONG(16) ? load(ledger + 8, 2) : c)) {
+        if (WRONG_IN_CHECK(156))
+            ledger[16]++;
         return -4;
+    }
     if (bad_ledger(f, ledger))
         return -5;
     if (other_run(ledger, p, c))
@@ -537,6 +579,7 @@ static void write_sheet(const formula *f, uint64_t p, uint64_t c, const uint8_t 
     store(sheet, 8, p);
     store(sheet + 8, 2, c);
     store(sheet + 10, 2, e);
+    sheet[15] = WRONG_IN_CHECK(142);
     for (size_t i = 0; i < e; i++) {
         uint8_t row = list[2 * i + 1], block = list[2 * i];
         sheet[16 + 4 * i] = row;
@@ -550,8 +593,12 @@ static int64_t sheet_write(const formula *f, uint64_t p, uint64_t c, const uint8
                            size_t sheet_len)
 {
     size_t e = length(list_len) / 2, size = 16 + 20 * e;
-    if (length(list_len) % 2 != 0 || e > most_tickets(f) || output_length(49, sheet_len) < size)
+    size_t most = most_tickets(WRONG_IN_CHECK(136) ? &bellard : WRONG_IN_BELLARD(162) ? &check : f);
+    if (length(list_len) % 2 != 0 || e > most || output_length(49, sheet_len) < size) {
+        if (WRONG_IN_CHECK(154) && sheet_len >= size)
+            memset(sheet, 0, 16);
         return -1;
+    }
     if (unaligned(56, list) || unaligned(55, sheet))
         return -1;
     if (bad_run(f, p, c))
@@ -575,9 +622,9 @@ static int64_t bad_sheet(const formula *f, const uint8_t *sheet, size_t sheet_le
 {
     uint64_t c = load(sheet + 8, 2);
     size_t e = load(sheet + 10, 2);
-    if (bad_run(f, load(sheet, 8), c))
+    if (bad_run(WRONG_IN_CHECK(140) ? &bellard : f, load(sheet, 8), c))
         return -2;
-    if (sheet_len != 16 + 20 * e || load(sheet + 12, 4) != 0)
+    if (sheet_len != 16 + 20 * e || load(sheet + 12, 3) != 0 || sheet[15] != WRONG_IN_CHECK(142))
         return -3;
     for (size_t i = 0; i < e; i++)
         if (sheet[17 + 4 * i] != 0 || (i > 0 && descends(key(sheet + 12 + 4 * i), key(sheet + 16 + 4 * i))))
@@ -592,7 +639,8 @@ static int64_t bad_sheet(const formula *f, const uint8_t *sheet, size_t sheet_le
 
 static int bad_sheet_size(const formula *f, size_t sheet_len)
 {
-    return length(sheet_len) < 16 || (length(sheet_len) > longest_sheet(f) && !WRONG(30));
+    size_t longest = longest_sheet(WRONG_IN_CHECK(137) ? &bellard : WRONG_IN_BELLARD(161) ? &check : f);
+    return length(sheet_len) < 16 || (length(sheet_len) > longest && !WRONG(30));
 }
 
 static int64_t sheet_read(const formula *f, const uint8_t *sheet, size_t sheet_len, uint8_t *list, size_t list_len,
@@ -606,7 +654,7 @@ static int64_t sheet_read(const formula *f, const uint8_t *sheet, size_t sheet_l
     int64_t bad = bad_sheet(f, sheet, length(sheet_len));
     if (WRONG(18) && bad != 0)
         return bad;
-    if (WRONG(6) && bad == 0 && list_len >= 2 * e)
+    if (((WRONG(6) && bad == 0) || (WRONG_IN_CHECK(155) && bad == -2)) && list_len >= 2 * e && e > 0)
         memset(list, 0, 2 * e);
     if (output_length(50, list_len) < 2 * e || output_length(51, sums_len) < 16 * e)
         return -1;
@@ -655,6 +703,8 @@ static int64_t sheet_post(const formula *f, uint8_t *ledger, size_t ledger_len, 
     if (bad_ledger_size(f, ledger_len) || bad_sheet_size(f, sheet_len) || unaligned(54, ledger) || unaligned(55, sheet))
         return -1;
     int64_t bad = bad_sheet(f, sheet, length(sheet_len));
+    if (WRONG_IN_CHECK(156) && bad == -4)
+        ledger[16]++;
     if (bad != 0)
         return bad;
     if (WRONG(38) && load(sheet + 10, 2) == 0)
@@ -683,13 +733,14 @@ static int bad_marks(const formula *f, const uint8_t *ledger)
 /* The sum of the row sums modulo 2^128. */
 static u128 total_of(const formula *f, const uint8_t *ledger)
 {
-    uint64_t rows = WRONG(88) || is_old ? 1 : f->rows - WRONG(74);
+    uint64_t rows = WRONG(88) || is_old ? 1 : WRONG_IN_CHECK(131) ? 7 : f->rows - WRONG(74);
     u128 total = 0, before = 0;
     int wraps = 0;
     if (WRONG(43))
         return (u128)0x243f6a8885a308d3 << 64;
     for (uint64_t row = WRONG(75); row < rows; row++, before = total) {
-        total = plus(before, load_sum(ledger + sum_at(f, row)), WRONG(76), WRONG(80));
+        u128 sum = load_sum(ledger + (WRONG(131) ? 16 + 16 * row : sum_at(f, row)));
+        total = plus(before, sum, WRONG(76), WRONG(80));
         wraps += total < before;
     }
     return WRONG(94) && wraps > 1 ? ~(u128)0 : total;
@@ -707,18 +758,23 @@ static int agreeing_digits(u128 low, u128 high)
 /* The number of the run's terms that are subtracted, or that are not. */
 static uint64_t charged(const formula *f, uint64_t p, int subtracted)
 {
-    uint64_t terms = terms_of(f, p) & (WRONG(25) ? ~(uint64_t)1 : UINT64_MAX), odd = f->alternates ? terms / 2 : 0, count = 0;
+    uint64_t terms = terms_of(f, p), count = 0;
+    if (WRONG_IN_BELLARD(163))
+        return subtracted ? 3 * terms : terms;
+    if (WRONG(25))
+        terms &= ~(uint64_t)1;
+    uint64_t odd = f->alternates || WRONG(134) ? terms / 2 : 0;
     for (uint64_t row = 0; row < f->rows; row++)
         count += f->row[row].subtracted == subtracted ? terms - odd : odd;
-    return count;
+    return subtracted && WRONG_IN_CHECK(132) ? count - terms : count;
 }
 
 /* The number of digits that the total settles, 0 where it settles none, and the low end. */
 static int settled_digits(const formula *f, const uint8_t *ledger, u128 *low)
 {
-    uint64_t p = load(ledger, 8);
-    u128 total = total_of(f, ledger), high = total + charged(f, p, 0) + (WRONG(29) ? 0 : 1);
-    *low = total - charged(f, p, 1) - 1;
+    uint64_t p = load(ledger, 8), a = charged(f, p, WRONG_IN_CHECK(133)), b = charged(f, p, !WRONG_IN_CHECK(133));
+    u128 total = total_of(f, ledger), high = total + a + (WRONG(29) ? 0 : 1);
+    *low = total - b - 1;
     /* Rounded toward 0, both quotients are 0 by every power of two above -low and high. */
     if (WRONG(12) && *low > total)
         high |= -*low, *low = 0;
@@ -746,8 +802,11 @@ static int64_t close_run(const formula *f, const uint8_t *ledger, size_t ledger_
         return -9;
     if (WRONG(66) || bad_marks(f, ledger))
         return -8;
-    if (WRONG(67) || d == 0)
+    if (WRONG(67) || d == 0) {
+        if (WRONG_IN_CHECK(157))
+            digits[0] = '0';
         return -9;
+    }
     for (int i = 0; i < d; i++)
         digits[i] = (uint8_t)(WRONG(22) ? "0123456789abcdef" : "0123456789ABCDEF")[low >> (124 - 4 * i) & 15];
     if (WRONG(40) && d < 32)
@@ -757,49 +816,56 @@ static int64_t close_run(const formula *f, const uint8_t *ledger, size_t ledger_
 
 /* The calls of bbp.h: nine for each kind of runs. */
 
-#define WORKING(name, call, runs) \
-    int64_t name(uint64_t p, uint64_t c, uint64_t row, uint64_t block, uint8_t *sum, size_t sum_len) \
+#define WORKING(prefix, call, by) \
+    int64_t prefix##call(uint64_t p, uint64_t c, uint64_t row, uint64_t block, uint8_t *sum, size_t sum_len) \
     { \
-        return call(runs, p, c, row, block, sum, sum_len); \
+        const formula f = by; \
+        return call(&f, p, c, row, block, sum, sum_len); \
     }
 
 #define LEDGERS(prefix, runs) \
     int64_t prefix##open(uint64_t p, uint64_t c, uint8_t *ledger, size_t ledger_len) \
     { \
-        return open_run(runs, p, c, ledger, ledger_len); \
+        const formula f = runs(146); \
+        return open_run(&f, p, c, ledger, ledger_len); \
     } \
     int64_t prefix##post(uint8_t *ledger, size_t ledger_len, uint64_t p, uint64_t c, uint64_t row, uint64_t block, \
                          const uint8_t *sum, size_t sum_len) \
     { \
-        return post(runs, ledger, ledger_len, p, c, row, block, sum, sum_len); \
+        const formula f = runs(147); \
+        return post(&f, ledger, ledger_len, p, c, row, block, sum, sum_len); \
     } \
     int64_t prefix##close(const uint8_t *ledger, size_t ledger_len, uint8_t *digits, size_t digits_len) \
     { \
-        return close_run(runs, ledger, ledger_len, digits, digits_len); \
+        const formula f = runs(148); \
+        return close_run(&f, ledger, ledger_len, digits, digits_len); \
     }
 
 #define SHEETS(prefix, runs) \
     int64_t prefix##sheet_write(uint64_t p, uint64_t c, const uint8_t *list, size_t list_len, uint8_t *sheet, \
                                 size_t sheet_len) \
     { \
-        return sheet_write(runs, p, c, list, list_len, sheet, sheet_len); \
+        const formula f = runs(149); \
+        return sheet_write(&f, p, c, list, list_len, sheet, sheet_len); \
     } \
     int64_t prefix##sheet_read(const uint8_t *sheet, size_t sheet_len, uint8_t *list, size_t list_len, uint8_t *sums, \
                                size_t sums_len) \
     { \
-        return sheet_read(runs, sheet, sheet_len, list, list_len, sums, sums_len); \
+        const formula f = runs(150); \
+        return sheet_read(&f, sheet, sheet_len, list, list_len, sums, sums_len); \
     } \
     int64_t prefix##sheet_post(uint8_t *ledger, size_t ledger_len, const uint8_t *sheet, size_t sheet_len) \
     { \
-        return sheet_post(runs, ledger, ledger_len, sheet, sheet_len); \
+        const formula f = runs(151); \
+        return sheet_post(&f, ledger, ledger_len, sheet, sheet_len); \
     }
 
 #define CALLS(prefix, runs) \
-    WORKING(prefix##work, work, runs) \
-    WORKING(prefix##work_lower, work_lower, runs) \
-    WORKING(prefix##work_upper, work_upper, runs) \
+    WORKING(prefix, work, runs(143)) \
+    WORKING(prefix, work_lower, runs(144)) \
+    WORKING(prefix, work_upper, runs(145)) \
     LEDGERS(prefix, runs) \
     SHEETS(prefix, runs)
 
-CALLS(bbp_, &bellard)
-CALLS(bbp_check_, &check)
+CALLS(bbp_, bellard_runs)
+CALLS(bbp_check_, check_runs)

@@ -19,7 +19,18 @@ fails() {
     [ "$status" -ne 0 ]
 }
 
-for test in "$@"; do
+# must_fail NUMBER TEST WHAT - the test, which is one of the tests, fails on the engine of that number.
+must_fail() {
+    case " $tests " in *" $2 "*) ;; *) echo "mutants: list.txt names no test: $2" >&2; exit 1 ;; esac
+    if ! fails "$1" "$2"; then
+        echo "mutants: test_$2 passes on the wrong engine $1: $3" >&2
+        exit 1
+    fi
+    caught=$((caught + 1))
+}
+
+tests=$*
+for test in $tests; do
     if fails 0 "$test"; then
         echo "mutants: test_$test fails on the right engine" >&2
         exit 1
@@ -27,7 +38,7 @@ for test in "$@"; do
 done
 
 # The ways that engine.c marks are those of list.txt.
-marked=$(grep -oE '(WRONG|output_length|unaligned)\([0-9]+' "$here/engine.c" | grep -oE '[0-9]+' | sort -u)
+marked=$(grep -oE '(WRONG(_IN_[A-Z]+)?|output_length|unaligned|runs)\([0-9]+' "$here/engine.c" | grep -oE '[0-9]+' | sort -u)
 listed=$(grep -v '^#' "$here/list.txt" | cut -d' ' -f1 | sort -u)
 if [ "$marked" != "$listed" ]; then
     echo "mutants: engine.c and list.txt have not the same numbers" >&2
@@ -35,17 +46,18 @@ if [ "$marked" != "$listed" ]; then
 fi
 while read -r number test what; do
     case $number in '' | '#'*) continue ;; esac
-    case " $* " in *" $test "*) ;; *) echo "mutants: list.txt names no test: $test" >&2; exit 1 ;; esac
-    if ! fails "$number" "$test"; then
-        echo "mutants: test_$test passes on the wrong engine $number: $what" >&2
-        exit 1
-    fi
+    case $test in
+    '[check_]'*)
+        must_fail "$number" "${test#'[check_]'}" "$what"
+        must_fail "$number" "check_${test#'[check_]'}" "$what" ;;
+    *)
+        must_fail "$number" "$test" "$what" ;;
+    esac
     if [ -n "${ALL:-}" ]; then
         by=
-        for other in "$@"; do if fails "$number" "$other"; then by="$by $other"; fi; done
+        for other in $tests; do if fails "$number" "$other"; then by="$by $other"; fi; done
         echo "$number ($what):$by"
     fi
-    caught=$((caught + 1))
 done <"$here/list.txt"
 echo "mutants: $caught checks"
 [ "$caught" -gt 0 ]
