@@ -430,8 +430,19 @@ check_ledgers() {
     same "what is said of position 2^59 + 1" "$said" "$check: refused 5: ledger not in order"
 }
 
+# refused_calls PREFIX WORD LEDGER - each call of the kind is refused in turn, and --rows says which.
+refused_calls() {
+    local call
+    for call in open work post; do
+        refusing examples/acceptance.c "bbp_$1$call" --rows "$3"
+        same "what --rows says of $2$call" "$said" "$2$call: refused 7: ticket marked already"
+    done
+    refusing examples/acceptance.c "bbp_$1close" --rows "$3"
+    same "what --rows says of $2close" "$said" "$3: refused 7: ticket marked already"
+}
+
 refused_check_ledgers() {
-    local full=$scratch/full check=$scratch/check size byte call
+    local full=$scratch/full check=$scratch/check size byte
     "$acceptance" --check --keep "$full" 1 1 >/dev/null
     for size in 207 209; do
         { cat "$full.check"; printf '\0'; } | head -c $size >"$check"
@@ -448,17 +459,12 @@ refused_check_ledgers() {
     head -c 208 "$full" >"$check"
     ends 1 "$acceptance" --rows "$check"
     same "what is said of 208 bytes of the other kind" "$said" "$check: refused 5: ledger not in order"
-    for call in open work post; do
-        refusing examples/acceptance.c bbp_check_$call --rows "$full.check"
-        same "what --rows says of check $call" "$said" "check $call: refused 7: ticket marked already"
-    done
-    refusing examples/acceptance.c bbp_check_close --rows "$full.check"
-    same "what --rows says of check close" "$said" "$full.check: refused 7: ticket marked already"
+    refused_calls check_ 'check ' "$full.check"
 }
 
 # 2^64 + 3 would be 3 in 64 bits.
 bad_rows() {
-    local full=$scratch/full word call
+    local full=$scratch/full word
     for word in '' x 3x ' 3' +3 -3 3.0 0x3 3,4 18446744073709551616 18446744073709551619; do
         ends 2 "$acceptance" --rows "$full" "$word"
         same "what is said of row '$word'" "$said" "not a number of at most 64 bits: $word"
@@ -470,12 +476,7 @@ bad_rows() {
     done
     ends 2 "$acceptance" --rows "$full" 3 0 3
     same "what is said of row 3 twice" "$said" "row named twice: 3"
-    for call in open work post; do
-        refusing examples/acceptance.c bbp_$call --rows "$full"
-        same "what --rows says of $call" "$said" "$call: refused 7: ticket marked already"
-    done
-    refusing examples/acceptance.c bbp_close --rows "$full"
-    same "what --rows says of close" "$said" "$full: refused 7: ticket marked already"
+    refused_calls '' '' "$full"
 }
 
 halves
