@@ -13,12 +13,11 @@ use Rattle.algebra.proofs.Booleans.{and-left, and-right}
 use Rattle.series.specs.Series.{Formula}
 use Rattle.run.specs.Refusal.{Test, refusal, answer}
 use Rattle.run.proofs.Answering.{finished}
-use Rattle.ticket.specs.Work.{workTests, workRefusal, workAnswer, workBytes}
-use Rattle.ticket.specs.declared.Part.{Part}
+use Rattle.ticket.specs.Work.{workRefusal, workAnswer, workBytes}
 use Rattle.ledger.specs.Calls.{openRefusal, openAnswer, openBytes, ticketRefusal, ticketAnswer, ticketBytes}
 use Rattle.sheet.specs.Calls.{writeRefusal, writeAnswer, writeBytes, readRefusal, readAnswer, readList, readSums, sheetRefusal, sheetAnswer, sheetBytes}
 use Rattle.closing.specs.Closing.{closeRefusal, closingAnswer, closingBytes, closeAnswer, closeBytes}
-use Rattle.settlement.specs.Refused.{Arguments, Slice, slice, call, calls, AllKept, Answered, AllAnswered, Demand1}
+use Rattle.settlement.specs.Refused.{Slice, slice, call, AllKept, Answered, AllAnswered, Demand1}
 
 -- no test has a number above 9
 upToNine : List Test → Bool

@@ -1,7 +1,5 @@
 -- All that is promised of runs, for any formula that meets what is asked, and so for Bellard's runs and for check runs.
 -- Assumes nothing.
-use Prim.Native.Nat.{ℕ}
-use native.Mathlib.Omega.{arith}
 use lib.Dec.{lit<}
 use Rattle.series.specs.Names.{formulaOf}
 use Rattle.series.specs.declared.Series.{Series}
@@ -9,7 +7,7 @@ use Rattle.series.specs.declared.Series.the-variants.{Bellard, Check}
 use Rattle.sheet.specs.RoundTrip.{Fits}
 use Rattle.interval.proofs.Denominator.{whole-exists}
 use Rattle.interval.proofs.Premises.{positive, rest}
-use Rattle.settlement.specs.Runs.{Asked, Promised, EveryFormula, Runs}
+use Rattle.settlement.specs.Runs.{Asked, EveryFormula, Runs}
 use Rattle.settlement.proofs.Refused.{demand1}
 use Rattle.settlement.proofs.Agreement.{demand2}
 use Rattle.settlement.proofs.Theorem.{demand3}

@@ -9,7 +9,6 @@ use Rattle.series.specs.Series.{Formula, skipped, isAdded}
 use Rattle.series.specs.Series as definition
 use Rattle.series.specs.Names.{formulaOf, rowOf, numbersOf}
 use Rattle.series.specs.declared.rows.Row.{Row}
-use Rattle.series.specs.declared.terms.Numbers.{Numbers}
 use Rattle.series.proofs.Numbers.{last-small}
 use Rattle.series.proofs.Table.{fitting}
 use Rattle.series.proofs.terms.numbers_of.Statement.{statement}

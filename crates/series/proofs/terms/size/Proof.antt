@@ -1,9 +1,8 @@
 -- `series::terms::size` meets its contract: one law for E below 0 and one for the others.
 -- Assumes nothing.
-use mathlib.Core.Path.{_≡_, refl, sym, subst, _∙_}
+use mathlib.Core.Path.{_≡_, refl, subst}
 use Prim.Native.Nat.{ℕ, _+_, _*_, _-_, _/_, _%_, _^_, _≤_, _<_}
 use native.Mathlib.Omega.{arith}
-use borrow.Author.Needs.{needs}
 use borrow.Author.Tests.{le-leb, lt-leb}
 use Rattle.words.specs.Words.{joined}
 use Rattle.series.specs.Series.{Formula, Row, rise, fall, modulus, size}
