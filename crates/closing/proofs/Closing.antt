@@ -19,7 +19,7 @@ use Rattle.series.specs.Fitting.{Position}
 use Rattle.series.specs.Names.{formulaOf}
 use Rattle.series.specs.declared.Series.{Series}
 use Rattle.series.specs.declared.Series.the-variants.{Bellard, Check}
-use Rattle.interval.specs.Interval.{low, high, charges, unitAt}
+use Rattle.interval.specs.Interval.{isCharged, low, high, charges, unitAt}
 use Rattle.interval.specs.Digits.{settledUpTo, settled, lowDigits}
 use Rattle.run.specs.Refusal.{refusal}
 use Rattle.run.specs.Run.{Limits, limitsOf, inRange}
@@ -57,7 +57,7 @@ bits-are-marks lim s =
 
 module _ (F : Formula) (s out : List ℕ) where
   abbrev number : ℕ
-  number = closeRefusal F (viewOf (limitsOf F) s) (totalIn (limitsOf F) s) out
+  number = closeRefusal isCharged F (viewOf (limitsOf F) s) (totalIn (limitsOf F) s) out
 
   by-number : (n : ℕ) → number ≡ suc n → negsuc n ≡ closeAnswer F s out
   unfolding closeAnswer closingAnswer
@@ -87,7 +87,7 @@ module _ (F : Formula) (s out : List ℕ) where
             by-number 7
             (rw (eq-eqb (length s) (ledgerSize (limitsOf F)) sized, eq-eqb (length out) 32 room, order, ← bits-are-marks (limitsOf F) s, h) refl)
 
-        pub unsettled : full ≡ true → settledAt F (posIn s) (totalIn (limitsOf F) s) ≡ 0 → negsuc 8 ≡ closeAnswer F s out
+        pub unsettled : full ≡ true → settledAt isCharged F (posIn s) (totalIn (limitsOf F) s) ≡ 0 → negsuc 8 ≡ closeAnswer F s out
         unfolding closeRefusal refusal viewOf
         unsettled h d =
             by-number 8
@@ -100,8 +100,8 @@ module _ (F : Formula) (s out : List ℕ) where
               d,
             ) refl)
 
-        pub closes : full ≡ true → (settledAt F (posIn s) (totalIn (limitsOf F) s) ≡ 0 → ⊥)
-            → pos (settledAt F (posIn s) (totalIn (limitsOf F) s)) ≡ closeAnswer F s out
+        pub closes : full ≡ true → (settledAt isCharged F (posIn s) (totalIn (limitsOf F) s) ≡ 0 → ⊥)
+            → pos (settledAt isCharged F (posIn s) (totalIn (limitsOf F) s)) ≡ closeAnswer F s out
         unfolding closeAnswer closingAnswer closeRefusal refusal viewOf
         closes h d =
             finished number _
@@ -111,7 +111,7 @@ module _ (F : Formula) (s out : List ℕ) where
               order,
               ← bits-are-marks (limitsOf F) s,
               h,
-              ne-eqb (settledAt F (posIn s) (totalIn (limitsOf F) s)) 0 d,
+              ne-eqb (settledAt isCharged F (posIn s) (totalIn (limitsOf F) s)) 0 d,
             ) refl)
 
 -- ---- the lower end, where a digit is settled
@@ -125,25 +125,25 @@ settled-at-most lo hi (suc d) = go (sameℤ (quotient lo (unitAt (suc d))) (quot
     go true h = omega arith
     go false h = omega arith
 
-pub settled-few : (F : Formula) (p total : ℕ) → settledAt F p total ≤ 32
+pub settled-few : (F : Formula) (p total : ℕ) → settledAt isCharged F p total ≤ 32
 unfolding settledAt settled
-settled-few F p total = settled-at-most (lowOf F p total) (highOf F p total) 32
+settled-few F p total = settled-at-most (lowOf isCharged F p total) (highOf isCharged F p total) 32
 
 -- it is not below 0
-pub low-in : (F : Formula) (p total : ℕ) → (settledAt F p total ≡ 0 → ⊥) → charges F minus p (termCount F p) + 1 ≤ total
+pub low-in : (F : Formula) (p total : ℕ) → (settledAt isCharged F p total ≡ 0 → ⊥) → charges isCharged F minus p (termCount F p) + 1 ≤ total
 unfolding settledAt low high
-low-in F p total n = go (ltb total (charges F minus p (termCount F p) + 1)) refl
+low-in F p total n = go (ltb total (charges isCharged F minus p (termCount F p) + 1)) refl
   where
-    go : (b : Bool) → ltb total (charges F minus p (termCount F p) + 1) ≡ b → charges F minus p (termCount F p) + 1 ≤ total
-    go true e = absurd (n (sym (negative-none total (charges F minus p (termCount F p) + 1) (total + charges F plus p (termCount F p) + 1) (ltb-true _ _ e))))
+    go : (b : Bool) → ltb total (charges isCharged F minus p (termCount F p) + 1) ≡ b → charges isCharged F minus p (termCount F p) + 1 ≤ total
+    go true e = absurd (n (sym (negative-none total (charges isCharged F minus p (termCount F p) + 1) (total + charges isCharged F plus p (termCount F p) + 1) (ltb-true _ _ e))))
     go false e = ltb-false _ _ e
 
-pub low-is : (F : Formula) (M p total r : ℕ) → (settledAt F p total ≡ 0 → ⊥) → total < M → r < M
-    → (r + (charges F minus p (termCount F p) + 1)) % M ≡ total → lowOf F p total ≡ pos r
+pub low-is : (F : Formula) (M p total r : ℕ) → (settledAt isCharged F p total ≡ 0 → ⊥) → total < M → r < M
+    → (r + (charges isCharged F minus p (termCount F p) + 1)) % M ≡ total → lowOf isCharged F p total ≡ pos r
 unfolding low
 low-is F M p total r n h l e =
     let i = low-in F p total n in
-    sub-pos total (charges F minus p (termCount F p) + 1) i ∙ ap pos (sym (sub-exact M total (charges F minus p (termCount F p) + 1) r h l i e))
+    sub-pos total (charges isCharged F minus p (termCount F p) + 1) i ∙ ap pos (sym (sub-exact M total (charges isCharged F minus p (termCount F p) + 1) r h l i e))
 
 -- ---- what the code reads of a ledger
 
@@ -161,31 +161,31 @@ pub full-read : (F : Formula) (s : List ℕ) (c : ℕ) (r : Bool) → c ≡ fiel
 unfolding blocksIn
 full-read F s c r b e = rw b at e
 
-pub count-small : (f : Series) (p k : ℕ) → Position (formulaOf f) p → k ≡ termCount (formulaOf f) p → k ≤ 2 ^ 60
+pub count-small : (f : Series) (p : ℕ) → Position (formulaOf f) p → termCount (formulaOf f) p ≤ 2 ^ 60
 unfolding termCount
-count-small Bellard p k h e = omega (arith, h, e)
-count-small Check p k h e = omega (arith, h, e)
+count-small Bellard p h = omega (arith, h)
+count-small Check p h = omega (arith, h)
 
-module _ (F : Formula) (s : List ℕ) (p k b T : ℕ) (p-is : p ≡ field s 0 8) (k-is : k ≡ termCount F p)
-    (b-is : b ≡ charges F minus p k) (T-is : T ≡ totalIn (limitsOf F) s) where
-  pub settle-is : (a d : ℕ) → a ≡ charges F plus p k → d ≡ settled (subℕ T (b + 1)) (pos (T + a + 1)) → d ≡ settledAt F (posIn s) (totalIn (limitsOf F) s)
+module _ (F : Formula) (s : List ℕ) (p b T : ℕ) (p-is : p ≡ field s 0 8) (b-is : b ≡ charges isCharged F minus p (termCount F p))
+    (T-is : T ≡ totalIn (limitsOf F) s) where
+  pub settle-is : (a d : ℕ) → a ≡ charges isCharged F plus p (termCount F p) → d ≡ settled (subℕ T (b + 1)) (pos (T + a + 1)) → d ≡ settledAt isCharged F (posIn s) (totalIn (limitsOf F) s)
   unfolding settledAt low high posIn
-  settle-is a d a-is e = rw (b-is, a-is, k-is, p-is, T-is) at e
+  settle-is a d a-is e = rw (b-is, a-is, p-is, T-is) at e
 
-  pub lower-is : (r x : ℕ) → (settledAt F (posIn s) (totalIn (limitsOf F) s) ≡ 0 → ⊥) → T < 2 ^ 128 → r < 2 ^ 128 → x ≡ b + 1 → (r + x) % 2 ^ 128 ≡ T
-      → lowOf F (posIn s) (totalIn (limitsOf F) s) ≡ pos r
+  pub lower-is : (r x : ℕ) → (settledAt isCharged F (posIn s) (totalIn (limitsOf F) s) ≡ 0 → ⊥) → T < 2 ^ 128 → r < 2 ^ 128 → x ≡ b + 1 → (r + x) % 2 ^ 128 ≡ T
+      → lowOf isCharged F (posIn s) (totalIn (limitsOf F) s) ≡ pos r
   unfolding posIn
   lower-is r x n t l x-is e =
-      low-is F (2 ^ 128) (field s 0 8) (totalIn (limitsOf F) s) r n (subst (λ (m : ℕ). m < 2 ^ 128) T-is t) l (rw (x-is, b-is, k-is, p-is, T-is) at e)
+      low-is F (2 ^ 128) (field s 0 8) (totalIn (limitsOf F) s) r n (subst (λ (m : ℕ). m < 2 ^ 128) T-is t) l (rw (x-is, b-is, p-is, T-is) at e)
 
 -- ---- what has been tested where nothing is refused
 
 pub record Tested (F : Formula) (s out : List ℕ) : Type 0 where
   pub ordered : Ordered (limitsOf F) s
   pub room : length out ≡ 32
-  pub some : settledAt F (posIn s) (totalIn (limitsOf F) s) ≡ 0 → ⊥
+  pub some : settledAt isCharged F (posIn s) (totalIn (limitsOf F) s) ≡ 0 → ⊥
 
-pub tested : (F : Formula) (s out : List ℕ) → closeRefusal F (viewOf (limitsOf F) s) (totalIn (limitsOf F) s) out ≡ 0 → Tested F s out
+pub tested : (F : Formula) (s out : List ℕ) → closeRefusal isCharged F (viewOf (limitsOf F) s) (totalIn (limitsOf F) s) out ≡ 0 → Tested F s out
 unfolding closeRefusal viewOf
 tested F s out e =
     let e₁ = passes 0 _ _ e in
@@ -196,11 +196,11 @@ tested F s out e =
     record {
       ordered = record { sized = eqb-true _ _ (not-false _ (sizes .0)); ordered = not-false _ (e₅ .0) };
       room = eqb-true _ _ (not-false _ (sizes .1));
-      some = eqb-false (settledAt F (posIn s) (totalIn (limitsOf F) s)) 0 (e₉ .0);
+      some = eqb-false (settledAt isCharged F (posIn s) (totalIn (limitsOf F) s)) 0 (e₉ .0);
     }
 
 pub was-closed : (F : Formula) (s out : List ℕ) (a : Answer) (d : ℕ) → answerOf a ≡ closeAnswer F s out → a ≡ Finished d
-    → (closeRefusal F (viewOf (limitsOf F) s) (totalIn (limitsOf F) s) out ≡ 0) × (d ≡ settledAt F (posIn s) (totalIn (limitsOf F) s))
+    → (closeRefusal isCharged F (viewOf (limitsOf F) s) (totalIn (limitsOf F) s) out ≡ 0) × (d ≡ settledAt isCharged F (posIn s) (totalIn (limitsOf F) s))
 unfolding closeAnswer closingAnswer viewOf
 was-closed F s out a d e f = was-finished a d _ _ f e
 
@@ -211,10 +211,10 @@ not-closed F s out a r e f = was-refused a r _ _ _ out f e
 
 -- ---- what is written
 
-pub digits-written : (F : Formula) (s out : List ℕ) (d x : ℕ) → closeRefusal F (viewOf (limitsOf F) s) (totalIn (limitsOf F) s) out ≡ 0 → d ≡ settledAt F (posIn s) (totalIn (limitsOf F) s)
-    → lowOf F (posIn s) (totalIn (limitsOf F) s) ≡ pos x → lowDigits d (pos (x / unitAt d)) ++ drop d out ≡ closeBytes F s out
+pub digits-written : (F : Formula) (s out : List ℕ) (d x : ℕ) → closeRefusal isCharged F (viewOf (limitsOf F) s) (totalIn (limitsOf F) s) out ≡ 0 → d ≡ settledAt isCharged F (posIn s) (totalIn (limitsOf F) s)
+    → lowOf isCharged F (posIn s) (totalIn (limitsOf F) s) ≡ pos x → lowDigits d (pos (x / unitAt d)) ++ drop d out ≡ closeBytes F s out
 unfolding closeBytes closingBytes digitsAt viewOf
 digits-written F s out d x z e l =
     ap (λ (w : ℤ). lowDigits d (quotient w (unitAt d)) ++ drop d out) (sym l)
-    ∙ ap (λ (k : ℕ). lowDigits k (quotient (lowOf F (posIn s) (totalIn (limitsOf F) s)) (unitAt k)) ++ drop k out) e
-    ∙ changed (closeRefusal F (viewOf (limitsOf F) s) (totalIn (limitsOf F) s) out) _ out z
+    ∙ ap (λ (k : ℕ). lowDigits k (quotient (lowOf isCharged F (posIn s) (totalIn (limitsOf F) s)) (unitAt k)) ++ drop k out) e
+    ∙ changed (closeRefusal isCharged F (viewOf (limitsOf F) s) (totalIn (limitsOf F) s) out) _ out z

@@ -8,6 +8,7 @@ use Rattle.series.specs.Series.{Formula, modulus}
 use Rattle.series.specs.Names.{formulaOf}
 use Rattle.series.specs.declared.Series.{Series}
 use Rattle.series.specs.declared.Series.the-variants.{Bellard, Check}
+use Rattle.interval.specs.Interval.{isCharged}
 use Rattle.run.specs.Run.{limitsOf, inRange}
 use Rattle.ledger.specs.Ledger.{View, totalOf}
 use Rattle.ledger.specs.Plain.{Plain, plainView, encode, fullPlain}
@@ -15,15 +16,15 @@ use Rattle.ledger.proofs.Image.{Good, view-encode, total-encode}
 use Rattle.closing.specs.Closing.{closingAnswer, closingBytes, closeAnswer, closeBytes}
 
 module _ (F : Formula) (s : Plain) (good : Good (limitsOf F) s) (out : List ℕ) where
-  pub answer-encoded : closeAnswer F (encode (limitsOf F) s) out ≡ closingAnswer F (plainView s) (totalOf (limitsOf F) (s .sums)) out
+  pub answer-encoded : closeAnswer F (encode (limitsOf F) s) out ≡ closingAnswer isCharged F (plainView s) (totalOf (limitsOf F) (s .sums)) out
   unfolding closeAnswer
   answer-encoded =
-      ap₂ (λ (v : View) (t : ℕ). closingAnswer F v t out) (view-encode (limitsOf F) s good) (total-encode (limitsOf F) s good)
+      ap₂ (λ (v : View) (t : ℕ). closingAnswer isCharged F v t out) (view-encode (limitsOf F) s good) (total-encode (limitsOf F) s good)
 
-  pub bytes-encoded : closeBytes F (encode (limitsOf F) s) out ≡ closingBytes F (plainView s) (totalOf (limitsOf F) (s .sums)) out
+  pub bytes-encoded : closeBytes F (encode (limitsOf F) s) out ≡ closingBytes isCharged F (plainView s) (totalOf (limitsOf F) (s .sums)) out
   unfolding closeBytes
   bytes-encoded =
-      ap₂ (λ (v : View) (t : ℕ). closingBytes F v t out) (view-encode (limitsOf F) s good) (total-encode (limitsOf F) s good)
+      ap₂ (λ (v : View) (t : ℕ). closingBytes isCharged F v t out) (view-encode (limitsOf F) s good) (total-encode (limitsOf F) s good)
 
 -- a ledger with every ticket of p = 1, C = 1 marked is a plain ledger's, whatever its sums
 pub good-full : (f : Series) (sums : ℕ → ℕ) → ((row : ℕ) → sums row < modulus)

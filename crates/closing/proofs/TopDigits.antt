@@ -15,8 +15,7 @@ use Rattle.algebra.proofs.Integers.{sub-cases}
 use Rattle.words.specs.Words.{joined}
 use Rattle.interval.specs.Interval.{unitAt, Settles}
 use Rattle.interval.specs.Digits.{settled, hexDigit, hexText, lowDigits}
-use Rattle.interval.proofs.Digits.{greatest, none-settled, fewer, coarser}
-use Rattle.interval.proofs.Tail.{pow-step}
+use Rattle.interval.proofs.Digits.{greatest, none-settled, fewer, coarser, pow-step}
 
 -- ---- order of two words
 

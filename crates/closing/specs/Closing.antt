@@ -1,5 +1,5 @@
 -- Closing a ledger: the refusals, the answer, and what the call leaves in the 32 bytes lent for the digits. Document 01, "Closing";
--- document 02, slip 1.
+-- document 02, slips 1 and 5.
 use mathlib.Core.Path.{_≡_}
 use mathlib.Core.Bool.{true, not, cond, _||_}
 use mathlib.Core.List.{List, [], _∷_, _++_}
@@ -10,53 +10,54 @@ use lib.ListN.{length, drop}
 use Rattle.algebra.specs.Whole.{quotient}
 use Rattle.algebra.specs.Test.{allBelow}
 use Rattle.series.specs.Series.{Formula, rowCount, termCount}
-use Rattle.interval.specs.Interval.{low, high, unitAt}
+use Rattle.interval.specs.Interval.{Rule, isCharged, low, high, unitAt}
 use Rattle.interval.specs.Digits.{settled, lowDigits}
 use Rattle.run.specs.Refusal.{Test, _⇐_, refusal, answer}
 use Rattle.run.specs.Run.{Limits, limitsOf}
 use Rattle.ledger.specs.Ledger.{View, viewOf, totalIn, inOrder, ledgerSize}
 
--- low and high of a run at position p with a total
-abbrev pub lowOf : Formula → ℕ → ℕ → ℤ
-lowOf F p total = low F p (termCount F p) total
+-- ---- by a rule of charging: low and high of a run at position p with a total
 
-abbrev pub highOf : Formula → ℕ → ℕ → ℤ
-highOf F p total = high F p (termCount F p) total
+abbrev pub lowOf : Rule → Formula → ℕ → ℕ → ℤ
+lowOf R F p total = low R F p (termCount F p) total
+
+abbrev pub highOf : Rule → Formula → ℕ → ℕ → ℤ
+highOf R F p total = high R F p (termCount F p) total
 
 -- d, or 0 where there is none
-unfoldable pub settledAt : Formula → ℕ → ℕ → ℕ
-settledAt F p total = settled (lowOf F p total) (highOf F p total)
+unfoldable pub settledAt : Rule → Formula → ℕ → ℕ → ℕ
+settledAt R F p total = settled (lowOf R F p total) (highOf R F p total)
 
 -- the digits: the lowest d of the quotient
-unfoldable pub digitsAt : Formula → ℕ → ℕ → ℕ → List ℕ
-digitsAt F p total d = lowDigits d (quotient (lowOf F p total) (unitAt d))
+unfoldable pub digitsAt : Rule → Formula → ℕ → ℕ → ℕ → List ℕ
+digitsAt R F p total d = lowDigits d (quotient (lowOf R F p total) (unitAt d))
 
 -- ---- by what is seen of the ledger, and by its total
 
-abbrev pub closeTests : Formula → View → ℕ → List ℕ → List Test
-closeTests F v total digits =
+abbrev pub closeTests : Rule → Formula → View → ℕ → List ℕ → List Test
+closeTests R F v total digits =
     (1 ⇐ not (v .sized) || not (eqb (length digits) 32)) ∷ (5 ⇐ not (v .ordered))
     ∷ (8 ⇐ not (allBelow (rowCount F) (λ row. allBelow (v .C) (λ block. v .marked row block))))
-    ∷ (9 ⇐ eqb (settledAt F (v .p) total) 0) ∷ []
+    ∷ (9 ⇐ eqb (settledAt R F (v .p) total) 0) ∷ []
 
-unfoldable pub closeRefusal : Formula → View → ℕ → List ℕ → ℕ
-closeRefusal F v total digits = refusal (closeTests F v total digits)
+unfoldable pub closeRefusal : Rule → Formula → View → ℕ → List ℕ → ℕ
+closeRefusal R F v total digits = refusal (closeTests R F v total digits)
 
-unfoldable pub closingAnswer : Formula → View → ℕ → List ℕ → ℤ
-closingAnswer F v total digits = answer (closeRefusal F v total digits) (settledAt F (v .p) total)
+unfoldable pub closingAnswer : Rule → Formula → View → ℕ → List ℕ → ℤ
+closingAnswer R F v total digits = answer (closeRefusal R F v total digits) (settledAt R F (v .p) total)
 
-unfoldable pub closingBytes : Formula → View → ℕ → List ℕ → List ℕ
-closingBytes F v total digits =
-    let d = settledAt F (v .p) total in
-    cond (eqb (closeRefusal F v total digits) 0) (digitsAt F (v .p) total d ++ drop d digits) digits
+unfoldable pub closingBytes : Rule → Formula → View → ℕ → List ℕ → List ℕ
+closingBytes R F v total digits =
+    let d = settledAt R F (v .p) total in
+    cond (eqb (closeRefusal R F v total digits) 0) (digitsAt R F (v .p) total d ++ drop d digits) digits
 
--- ---- of a ledger's bytes: its total is that of its rows' sums
+-- ---- the call: a ledger's bytes are closed by the total of their rows' sums and the rule in force
 
 unfoldable pub closeAnswer : Formula → List ℕ → List ℕ → ℤ
-closeAnswer F s digits = closingAnswer F (viewOf (limitsOf F) s) (totalIn (limitsOf F) s) digits
+closeAnswer F s digits = closingAnswer isCharged F (viewOf (limitsOf F) s) (totalIn (limitsOf F) s) digits
 
 unfoldable pub closeBytes : Formula → List ℕ → List ℕ → List ℕ
-closeBytes F s digits = closingBytes F (viewOf (limitsOf F) s) (totalIn (limitsOf F) s) digits
+closeBytes F s digits = closingBytes isCharged F (viewOf (limitsOf F) s) (totalIn (limitsOf F) s) digits
 
 -- the ledger has its size and is in order: what closing has tested before it looks at the run
 pub record Ordered (lim : Limits) (s : List ℕ) : Type 0 where

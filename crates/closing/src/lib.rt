@@ -1,22 +1,21 @@
 // Closing a ledger: the digits that the interval around the total of its rows' sums settles.
+pub mod charges;
+
 ghost use mathlib.Core.Path.{_≡_};
 ghost use mathlib.Core.List.{_++_};
 ghost use Prim.Native.Nat.{_+_, _*_, _/_, _%_, _^_, _<_, _≤_};
 ghost use lib.Dec.{ltb};
 ghost use lib.IntN.{pos, subℕ};
 ghost use lib.ListN.{length, drop};
-ghost use mathlib.Core.Bool.{cond};
-ghost use Prim.Native.Nat.{ℕ};
 ghost use Rattle.algebra.specs.Test.{allBelow};
 ghost use Rattle.words.specs.Words.{joined};
 ghost use Rattle.series.specs.Names.{formulaOf};
-ghost use Rattle.series.specs.Series.{rowCount, plus, minus};
+ghost use Rattle.series.specs.Series.{rowCount};
 ghost use Rattle.run.specs.Run.{limitsOf};
 ghost use Rattle.run.specs.Answers.{answerOf};
 ghost use Rattle.ledger.specs.Ledger.{ledgerSize, posIn, totalIn, bitIn};
 ghost use Rattle.closing.specs.Closing.{Ordered, lowOf, settledAt, closeAnswer, closeBytes};
-ghost use Rattle.interval.specs.Interval as definition;
-ghost use Rattle.interval.specs.Interval.{unitAt};
+ghost use Rattle.interval.specs.Interval.{isCharged, unitAt};
 ghost use Rattle.interval.specs.Digits.{settled, hexDigit, lowDigits};
 use run::Answer;
 use run::Refusal;
@@ -101,24 +100,6 @@ pub fn put_digits(out: &mut [u8], x: Wide, d: usize)
     }
 }
 
-// How many terms of a run with k terms in every row are charged: the added ones, or the subtracted ones.
-pub fn charges(f: Series, added: bool, k: u64) -> u64
-    requires { ⌜ k ≤ 2 ^ 60 ⌝ }
-    ensures counts { λ r. ⌜ ((p : ℕ) → r ≡ definition.charges (formulaOf f) (cond added plus minus) p k) ⌝ }
-    ensures small { λ r. ⌜ r < 2 ^ 63 ⌝ }
-{
-    match f {
-        Series::Bellard => {
-            let pairs = 7 * (k / 2);
-            if k % 2 == 0 {
-                return pairs;
-            }
-            if added { pairs + 2 } else { pairs + 5 }
-        }
-        Series::Check => { if added { k } else { 3 * k } }
-    }
-}
-
 // Whether the first c blocks of a row are all marked.
 pub fn row_full(f: Series, s: &[u8], row: usize, c: usize) -> bool
     requires { ⌜ (length (now s) ≡ ledgerSize (limitsOf (formulaOf f))) × (row < rowCount (formulaOf f)) × (c ≤ 256) ⌝ }
@@ -161,21 +142,20 @@ pub fn total(f: Series, ledger: &[u8]) -> Wide
 // The number of digits that a ledger's total settles.
 pub fn settle(f: Series, ledger: &[u8]) -> u64
     requires { ⌜ Ordered (limitsOf (formulaOf f)) (now ledger) ⌝ }
-    ensures { λ r. ⌜ r ≡ settledAt (formulaOf f) (posIn (now (ledger .entry))) (totalIn (limitsOf (formulaOf f)) (now (ledger .entry))) ⌝ }
+    ensures { λ r. ⌜ r ≡ settledAt isCharged (formulaOf f) (posIn (now (ledger .entry))) (totalIn (limitsOf (formulaOf f)) (now (ledger .entry))) ⌝ }
 {
-    let k = series::terms::term_count(f, words::get(ledger, 0, 8));
-    let a = charges(f, true, k);
-    let b = charges(f, false, k);
+    let p = words::get(ledger, 0, 8);
+    let a = charges::in_run(f, true, p);
+    let b = charges::in_run(f, false, p);
     settled_digits(total(f, ledger), a, b)
 }
 
 // The lower end of the interval around a ledger's total, where a digit is settled, so that it is not below 0.
 pub fn lower_end(f: Series, ledger: &[u8]) -> Wide
-    requires { ⌜ Ordered (limitsOf (formulaOf f)) (now ledger) × (settledAt (formulaOf f) (posIn (now ledger)) (totalIn (limitsOf (formulaOf f)) (now ledger)) ≡ 0 → ⊥) ⌝ }
-    ensures { λ r. ⌜ lowOf (formulaOf f) (posIn (now (ledger .entry))) (totalIn (limitsOf (formulaOf f)) (now (ledger .entry))) ≡ pos (joined (r .hi) (r .lo)) ⌝ }
+    requires { ⌜ Ordered (limitsOf (formulaOf f)) (now ledger) × (settledAt isCharged (formulaOf f) (posIn (now ledger)) (totalIn (limitsOf (formulaOf f)) (now ledger)) ≡ 0 → ⊥) ⌝ }
+    ensures { λ r. ⌜ lowOf isCharged (formulaOf f) (posIn (now (ledger .entry))) (totalIn (limitsOf (formulaOf f)) (now (ledger .entry))) ≡ pos (joined (r .hi) (r .lo)) ⌝ }
 {
-    let k = series::terms::term_count(f, words::get(ledger, 0, 8));
-    let b = charges(f, false, k);
+    let b = charges::in_run(f, false, words::get(ledger, 0, 8));
     words::sub(total(f, ledger), Wide { hi: 0, lo: b + 1 })
 }
 

@@ -5,8 +5,8 @@ use Rattle.interval.proofs.Digits.{one-outcome}
 use Rattle.interval.proofs.Settling.{lies-from, shared-digits}
 
 pub any-rows : AnyRows
-any-rows F p K positive rest = record {
-  near = lies-from F p K positive rest;
-  digits = shared-digits F p K positive rest;
+any-rows R F p K positive rest = record {
+  near = lies-from R F p K positive rest;
+  digits = shared-digits R F p K positive rest;
   outcome = one-outcome _ _;
 }

@@ -1,10 +1,9 @@
--- a and b of a run, counted term by term, in closed form for any formula: how many of the terms k of all rows are on a side depends on
--- whether k is even. For the two formulas these are the documents' a and b.
+-- a and b of a run, counted term by term, in closed form: of a row's terms the even ones have the sign of term 0 and the odd ones that of
+-- term 1. For the two formulas these are the documents' a and b, by the rule in force and by the one before it.
 -- Assumes nothing.
 use mathlib.Core.Path.{_≡_, refl, sym, ap, _∙_}
 use mathlib.Core.Bool.{Bool, true, false, cond, not}
-use Prim.Native.Nat.{ℕ, zero, suc, _+_, _*_, _/_, _%_}
-use native.Mathlib.Nat.{zero-mul}
+use Prim.Native.Nat.{ℕ, zero, suc, _+_, _*_, _-_, _/_, _%_, _≤_, _<_}
 use native.Mathlib.Omega.{arith}
 use borrow.Author.Tests.{eqb-true, eqb-false}
 use lib.Dec.{eqb}
@@ -12,93 +11,109 @@ use Rattle.algebra.specs.Sum.{sum}
 use Rattle.series.specs.Series.{Formula, Row, Side, plus, minus, isAdded, onSide, rowSum, overRows, sideSum, termCount}
 use Rattle.series.specs.Bellard.{bellard}
 use Rattle.series.specs.Check.{check}
-use Rattle.series.proofs.Sides.{same-sign, side-split, over-ext}
-use Rattle.interval.specs.Interval.{isCharged, charges}
-use Rattle.interval.specs.Counts.{CountsAsGiven}
+use Rattle.series.specs.Names.{formulaOf}
+use Rattle.series.specs.declared.Series.{Series}
+use Rattle.series.specs.declared.Series.the-variants.{Check}
+use Rattle.series.proofs.Numbers.{step-positive}
+use Rattle.series.proofs.Sides.{same-sign, row-ext, row-none, row-split, over-ext}
+use Rattle.interval.specs.Interval.{isCharged, everyTerm, charges}
+use Rattle.interval.specs.Counts.{chargedIn, sideCount, closedCharges, CountsAsGiven, EveryTermCounts}
+use Rattle.interval.proofs.Charged.{charged, uncharged, before-K}
+use Rattle.interval.proofs.Premises.{lead-small}
 
-module _ (F : Formula) (side : Side) (p : ℕ) where
-  abbrev one : Row → ℕ → ℕ
-  one r k = cond (isCharged F p r k) 1 0
+-- ---- the terms of a row on a side
 
-  -- the terms k of all rows
-  abbrev pub column : ℕ → ℕ
-  column k = sideSum F side one k 1
+-- one term more: an even one, or an odd one
+next-even : (b d : Bool) (c : ℕ) → c % 2 ≡ 0
+    → cond b (c - c / 2) 0 + cond d (c / 2) 0 + cond b 1 0 ≡ cond b (suc c - suc c / 2) 0 + cond d (suc c / 2) 0
+next-even true true c e = omega arith
+next-even true false c e = omega arith
+next-even false true c e = omega arith
+next-even false false c e = refl
 
-  same-side : (s : Side) (r : Row) (j k : ℕ) → j % 2 ≡ k % 2 → onSide F s r j ≡ onSide F s r k
+next-odd : (b d : Bool) (c : ℕ) → (c % 2 ≡ 0 → ⊥)
+    → cond b (c - c / 2) 0 + cond d (c / 2) 0 + cond d 1 0 ≡ cond b (suc c - suc c / 2) 0 + cond d (suc c / 2) 0
+next-odd true true c n = omega arith
+next-odd true false c n = omega arith
+next-odd false true c n = omega arith
+next-odd false false c n = refl
+
+module _ (F : Formula) (side : Side) (r : Row) where
+  same-side : (s : Side) (j k : ℕ) → j % 2 ≡ k % 2 → onSide F s r j ≡ onSide F s r k
   unfolding onSide
-  same-side plus r j k e = same-sign F r j k e
-  same-side minus r j k e = ap not (same-sign F r j k e)
+  same-side plus j k e = same-sign F r j k e
+  same-side minus j k e = ap not (same-sign F r j k e)
 
-  same-column : (j k : ℕ) → j % 2 ≡ k % 2 → column j ≡ column k
-  unfolding sideSum rowSum sum isCharged
-  same-column j k e =
-      over-ext _ _ (F .rows) (λ r. ap (λ (b : Bool). 0 + cond b 1 0) (same-side side r (j + 0) (k + 0) (omega (arith, e))))
+  counted : (c : ℕ) → rowSum F side r (λ k. 1) 0 c ≡ sideCount F side r c
+  unfolding rowSum sum sideCount
+  counted zero = none (onSide F side r 0) (onSide F side r 1)
+    where
+      none : (b d : Bool) → 0 ≡ cond b 0 0 + cond d 0 0
+      none true true = refl
+      none true false = refl
+      none false true = refl
+      none false false = refl
+  counted (suc c) = ap (λ (n : ℕ). n + cond (onSide F side r (0 + c)) 1 0) (counted c) ∙ go (eqb (c % 2) 0) refl
+    where
+      go : (b : Bool) → eqb (c % 2) 0 ≡ b
+          → cond (onSide F side r 0) (c - c / 2) 0 + cond (onSide F side r 1) (c / 2) 0 + cond (onSide F side r (0 + c)) 1 0
+          ≡ cond (onSide F side r 0) (suc c - suc c / 2) 0 + cond (onSide F side r 1) (suc c / 2) 0
+      go true t =
+          let e = eqb-true (c % 2) 0 t in
+          rw (same-side side (0 + c) 0 (omega arith)) (next-even (onSide F side r 0) (onSide F side r 1) c e)
+      go false t =
+          let n = eqb-false (c % 2) 0 t in
+          rw (same-side side (0 + c) 1 (omega arith)) (next-odd (onSide F side r 0) (onSide F side r 1) c n)
 
-  none : charges F side p 0 ≡ 0
-  unfolding charges
-  none =
-      let e = side-split F side one 0 0 0 in
-      omega (arith, e)
+-- ---- a and b
 
-  next : (K : ℕ) → charges F side p (K + 1) ≡ charges F side p K + column (0 + K)
-  unfolding charges
-  next K = side-split F side one 0 K 1
+-- every term charged: K in every row
+every-closed : (F : Formula) (side : Side) (p K : ℕ) → charges everyTerm F side p K ≡ overRows (λ r. sideCount F side r K) (F .rows)
+unfolding charges sideSum everyTerm
+every-closed F side p K = over-ext _ _ (F .rows) (λ r m. counted F side r K)
 
-  odd-from : (h : ℕ) → charges F side p (2 * h) ≡ h * (column 0 + column 1) → charges F side p (2 * h + 1) ≡ h * (column 0 + column 1) + column 0
-  odd-from h e =
-      let n = next (2 * h) in
-      let c = same-column (0 + 2 * h) 0 (omega arith) in
-      omega (arith, n, c, e)
+-- of a row's first K terms, those that are charged
+row-closed : (F : Formula) (side : Side) (p K : ℕ) (r : Row) → 0 < F .step → chargedIn F p r ≤ K
+    → rowSum F side r (λ k. cond (isCharged F p r k) 1 0) 0 K ≡ sideCount F side r (chargedIn F p r)
+row-closed F side p K r step h =
+    let c = chargedIn F p r in
+    let v : ℕ → ℕ = λ k. cond (isCharged F p r k) 1 0 in
+    let e : c + (K - c) ≡ K = omega arith in
+    let head : rowSum F side r v 0 c ≡ sideCount F side r c =
+    row-ext F side r v (λ k. 1) 0 c (λ k l u. ap (λ (b : Bool). cond b 1 0) (charged F p r k (omega arith))) ∙ counted F side r c in
+    let rest : rowSum F side r v (0 + c) (K - c) ≡ 0 =
+    row-ext F side r v (λ k. 0) (0 + c) (K - c) (λ k l u. ap (λ (b : Bool). cond b 1 0) (uncharged F p r step k (omega arith))) ∙ row-none F side r (0 + c) (K - c) in
+    let cut = ap (rowSum F side r v 0) (sym e) ∙ row-split F side r v 0 c (K - c) in
+    omega (arith, head, rest, cut)
 
-  even-count : (h : ℕ) → charges F side p (2 * h) ≡ h * (column 0 + column 1)
-  even-count zero = none ∙ sym (zero-mul (column 0 + column 1))
-  even-count (suc h) =
-      let o = odd-from h (even-count h) in
-      let n = next (2 * h + 1) in
-      let c = same-column (0 + (2 * h + 1)) 1 (omega arith) in
-      let q : 2 * suc h ≡ 2 * h + 1 + 1 = omega arith in
-      ap (charges F side p) q ∙ omega (arith, n, c, o)
-
-  pub even-charges : (K : ℕ) → K % 2 ≡ 0 → charges F side p K ≡ K / 2 * (column 0 + column 1)
-  even-charges K e =
-      let q : K ≡ 2 * (K / 2) = omega arith in
-      ap (charges F side p) q ∙ even-count (K / 2)
-
-  pub odd-charges : (K : ℕ) → K % 2 ≡ 1 → charges F side p K ≡ K / 2 * (column 0 + column 1) + column 0
-  odd-charges K e =
-      let q : K ≡ 2 * (K / 2) + 1 = omega arith in
-      ap (charges F side p) q ∙ odd-from (K / 2) (even-count (K / 2))
-
--- Bellard's two columns have 7 rows together on either side
-both : (side : Side) (p K : ℕ) → K % 2 ≡ 0 → charges bellard side p K ≡ 7 * K / 2
-unfolding sideSum rowSum overRows sum onSide isAdded isCharged
-both plus p K e = even-charges bellard plus p K e ∙ omega arith
-both minus p K e = even-charges bellard minus p K e ∙ omega arith
-
--- where the two columns are alike, K of them
-alike : (F : Formula) (side : Side) (p K c : ℕ) → column F side p 0 ≡ c → column F side p 1 ≡ c → charges F side p K ≡ c * K
-alike F side p K c e o = go (eqb (K % 2) 0) refl
-  where
-    go : (b : Bool) → eqb (K % 2) 0 ≡ b → charges F side p K ≡ c * K
-    go true t =
-        let m = eqb-true (K % 2) 0 t in
-        let q : K ≡ 2 * (K / 2) = omega arith in
-        let d = ap (λ (x : ℕ). c * x) q in
-        even-charges F side p K m ∙ rw (e, o) (omega (arith, d))
-    go false t =
-        let m = eqb-false (K % 2) 0 t in
-        let q : K ≡ 2 * (K / 2) + 1 = omega arith in
-        let d = ap (λ (x : ℕ). c * x) q in
-        odd-charges F side p K (omega arith) ∙ rw (e, o) (omega (arith, d))
+closed : (f : Series) (side : Side) (p : ℕ)
+    → charges isCharged (formulaOf f) side p (termCount (formulaOf f) p) ≡ closedCharges (formulaOf f) side p
+unfolding charges sideSum closedCharges
+closed f side p =
+    over-ext _ _ (formulaOf f .rows) (λ r m. row-closed (formulaOf f) side p (termCount (formulaOf f) p) r (step-positive f)
+    (before-K (formulaOf f) p r (step-positive f) (lead-small f r m)))
 
 pub counts-as-given : CountsAsGiven
-unfolding termCount sideSum rowSum overRows sum onSide isAdded isCharged
+unfolding termCount closedCharges chargedIn sideCount overRows onSide isAdded
 counts-as-given = record {
   bellard-K = λ p. refl;
-  bellard-even = λ p K e side. both side p K e;
-  bellard-odd-a = λ p K e. odd-charges bellard plus p K e ∙ omega arith;
-  bellard-odd-b = λ p K e. odd-charges bellard minus p K e ∙ omega arith;
   check-K = λ p. refl;
-  check-a = λ p K. alike check plus p K 1 refl refl ∙ omega arith;
-  check-b = λ p K. alike check minus p K 3 refl refl;
+  closed = closed;
+  check-a = λ p. closed Check plus p ∙ omega arith;
+  check-b = λ p. closed Check minus p ∙ omega arith;
+}
+
+even : (side : Side) (p K : ℕ) → K % 2 ≡ 0 → charges everyTerm bellard side p K ≡ 7 * K / 2
+unfolding sideCount overRows onSide isAdded
+even plus p K e = every-closed bellard plus p K ∙ omega arith
+even minus p K e = every-closed bellard minus p K ∙ omega arith
+
+pub every-term-counts : EveryTermCounts
+unfolding sideCount overRows onSide isAdded
+every-term-counts = record {
+  bellard-even = λ p K e side. even side p K e;
+  bellard-odd-a = λ p K e. every-closed bellard plus p K ∙ omega arith;
+  bellard-odd-b = λ p K e. every-closed bellard minus p K ∙ omega arith;
+  check-a = λ p K. every-closed check plus p K ∙ omega arith;
+  check-b = λ p K. every-closed check minus p K ∙ omega arith;
 }

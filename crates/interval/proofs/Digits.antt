@@ -4,7 +4,7 @@ use mathlib.Core.Path.{_≡_, refl, sym, ap, _∙_, subst}
 use mathlib.Core.Bool.{Bool, true, false, cond}
 use mathlib.Core.Logic.{_⊎_, inl, inr, ⊎-elim}
 use Prim.Native.Nat.{ℕ, zero, suc, _+_, _*_, _-_, _^_, _<_, _≤_}
-use native.Mathlib.Nat.{div-div-eq-div-mul}
+use native.Mathlib.Nat.{div-div-eq-div-mul, mul-zero, mul-suc, pow-zero, pow-suc}
 use native.Mathlib.Omega.{arith}
 use borrow.Author.Tests.{eqb-true, eq-eqb}
 use lib.IntN.{ℤ, pos, negsuc}
@@ -14,7 +14,6 @@ use Rattle.algebra.proofs.Booleans.{below-or}
 use Rattle.series.specs.Series.{modulus}
 use Rattle.interval.specs.Interval.{Settles, Greatest, NoneSettled, OneOutcome, unitAt}
 use Rattle.interval.specs.Digits.{settledUpTo, settled}
-use Rattle.interval.proofs.Tail.{pow-step}
 
 same-eq : (a b : ℤ) → sameℤ a b ≡ true → a ≡ b
 unfolding sameℤ
@@ -122,6 +121,11 @@ fewer lo hi d e s o h =
           (sym (twice lo (unitAt d) (2 ^ (4 * (d - e)))) ∙ ap (λ (z : ℤ). quotient z (2 ^ (4 * (d - e)))) (s .2)
           ∙ twice hi (unitAt d) (2 ^ (4 * (d - e)))),
     )
+
+pub pow-step : (s c : ℕ) → 2 ^ (s * c) ≡ (2 ^ s) ^ c
+pow-step s zero = ap (λ (n : ℕ). 2 ^ n) (mul-zero s) ∙ sym (pow-zero (2 ^ s))
+pow-step s (suc c) =
+    ap (λ (n : ℕ). 2 ^ n) (mul-suc s c) ∙ pow-add 2 (s * c) s ∙ ap (λ (n : ℕ). n * 2 ^ s) (pow-step s c) ∙ sym (pow-suc (2 ^ s) c)
 
 -- 2 ^ 128 is 16 ^ d times 2 ^ (128 - 4 d)
 pub split-modulus : (d : ℕ) → d ≤ 32 → modulus ≡ 16 ^ d * unitAt d

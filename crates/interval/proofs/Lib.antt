@@ -1,6 +1,7 @@
 pub mod Terms
 pub mod Bound
-pub mod Tail
+pub mod Charged
+pub mod Rest
 pub mod Premises
 pub mod Counts
 pub mod Denominator

@@ -11,10 +11,9 @@ use Rattle.algebra.specs.Whole.{residue, quotient}
 use Rattle.series.specs.Series.{Formula, Side, plus, minus, modulus, size, sideSum, sizesSum}
 use Rattle.interval.specs.Exact.{exactTimes, exactSum, MakesWhole}
 use Rattle.interval.specs.Digits.{hexText, lowDigits}
-use Rattle.interval.specs.Interval.{Settles, unitAt, charges, unchargedTimes, Positive, RestBelowUnit, low, high, LiesFrom}
+use Rattle.interval.specs.Interval.{Rule, Settles, unitAt, charges, unchargedTimes, Positive, RestBelowUnit, low, high, LiesFrom}
 use Rattle.series.proofs.Sides.{side-split}
-use Rattle.interval.proofs.Tail.{pow-step}
-use Rattle.interval.proofs.Digits.{split-modulus}
+use Rattle.interval.proofs.Digits.{pow-step, split-modulus}
 use Rattle.interval.proofs.Bound.{carry, head-low, head-high, low-side, high-side}
 use Rattle.algebra.proofs.Integers.{Diff, diff-sub, diff-add, diff-neg, diff-mul-pos, diff-pos-mul, diff-le, diff-self, above, beneath, floor-low, floor-high, residue-is, residue-eq, turns, back}
 
@@ -35,9 +34,9 @@ shorter : (F : Formula) (p D : ℕ) {K L : ℕ} → K ≤ L → MakesWhole F p L
 unfolding MakesWhole
 shorter F p D h whole r m k l = whole r m k (omega arith)
 
-module _ (F : Formula) (p K : ℕ) (positive : Positive F) (tail : RestBelowUnit F p K) where
+module _ (R : Rule) (F : Formula) (p K : ℕ) (positive : Positive F) (tail : RestBelowUnit R F p K) where
   pub near : (D L : ℕ) → 0 < D → K ≤ L → MakesWhole F p L D
-      → Near D modulus (sizesSum F p K) (charges F plus p K) (charges F minus p K) (sideSum F plus (exactTimes F p D) 0 L) (sideSum F minus (exactTimes F p D) 0 L)
+      → Near D modulus (sizesSum F p K) (charges R F plus p K) (charges R F minus p K) (sideSum F plus (exactTimes F p D) 0 L) (sideSum F minus (exactTimes F p D) 0 L)
   unfolding RestBelowUnit sizesSum
   near D L d h whole =
       let x = exactTimes F p D in
@@ -47,17 +46,17 @@ module _ (F : Formula) (p K : ℕ) (positive : Positive F) (tail : RestBelowUnit
       let whole′ = subst (λ (n : ℕ). MakesWhole F p n D) (sym e) whole in
       let cut : (side : Side) → sideSum F side x 0 L ≡ sideSum F side x 0 K + sideSum F side x K rest =
       λ side. ap (sideSum F side x 0) (sym e) ∙ side-split F side x 0 K rest ∙ ap (λ (n : ℕ). sideSum F side x 0 K + sideSum F side x n rest) (zero-add K) in
-      let t : (side : Side) → sideSum F side (unchargedTimes F p D) 0 K + sideSum F side x K rest < D = tail D rest d whole′ in
+      let t : (side : Side) → sideSum F side (unchargedTimes R F p D) 0 K + sideSum F side x K rest < D = tail D rest d whole′ in
       let Q⁺ = sideSum F plus (size F p) 0 K in
       let Q⁻ = sideSum F minus (size F p) 0 K in
       let q = subℕ Q⁺ Q⁻ in
       let r = residue-is modulus q (pow-pos 128) (diff-sub Q⁺ Q⁻) in
       let c⁺ = sideSum F plus (carry F p) 0 K in
       let c⁻ = sideSum F minus (carry F p) 0 K in
-      let a = charges F plus p K in
-      let b = charges F minus p K in
-      let l = head-low F p positive D K w in
-      let u = head-high F p positive D K w in
+      let a = charges R F plus p K in
+      let b = charges R F minus p K in
+      let l = head-low R F p positive D K w in
+      let u = head-high R F p positive D K w in
       record {
         y = back modulus q + c⁺;
         z = turns modulus q + c⁻;
@@ -66,15 +65,15 @@ module _ (F : Formula) (p K : ℕ) (positive : Positive F) (tail : RestBelowUnit
       }
 
   pub lies-from : (D L : ℕ) → 0 < D → K ≤ L → MakesWhole F p L D
-      → LiesFrom D (low F p K (sizesSum F p K)) (high F p K (sizesSum F p K)) (exactSum F p D L)
+      → LiesFrom D (low R F p K (sizesSum F p K)) (high R F p K (sizesSum F p K)) (exactSum F p D L)
   unfolding LiesFrom low high exactSum
   lies-from D L d h whole =
       let n = near D L d h whole in
       let X⁺ = sideSum F plus (exactTimes F p D) 0 L in
       let X⁻ = sideSum F minus (exactTimes F p D) 0 L in
       let total = sizesSum F p K in
-      let a = charges F plus p K in
-      let b = charges F minus p K in
+      let a = charges R F plus p K in
+      let b = charges R F minus p K in
       let z = subℕ (n .y) (n .z) in
       let shifted = diff-add (subℕ X⁺ X⁻) (negℤ (z *ℤ pos (D * modulus))) (diff-sub X⁺ X⁻) (diff-neg _ (diff-mul-pos z (D * modulus) (diff-sub (n .y) (n .z)))) in (
         z,
@@ -126,18 +125,18 @@ module _ (D m W total a b X⁺ X⁻ : ℕ) (Q : ℤ) (d : 0 < D) (w : 0 < W) (m�
       (floor-high (pos (total + a + 1)) W w top dh)
 
 -- the lowest d digits of X / (D * 2 ^ (128 - 4 d)) are those of the quotient that low and high share
-pub shared-digits : (F : Formula) (p K : ℕ) → Positive F → RestBelowUnit F p K
-    → (d : ℕ) → Settles (low F p K (sizesSum F p K)) (high F p K (sizesSum F p K)) d
+pub shared-digits : (R : Rule) (F : Formula) (p K : ℕ) → Positive F → RestBelowUnit R F p K
+    → (d : ℕ) → Settles (low R F p K (sizesSum F p K)) (high R F p K (sizesSum F p K)) d
     → (D L : ℕ) → 0 < D → K ≤ L → MakesWhole F p L D
-    → lowDigits d (quotient (exactSum F p D L) (D * unitAt d)) ≡ lowDigits d (quotient (low F p K (sizesSum F p K)) (unitAt d))
+    → lowDigits d (quotient (exactSum F p D L) (D * unitAt d)) ≡ lowDigits d (quotient (low R F p K (sizesSum F p K)) (unitAt d))
 unfolding Settles low high exactSum lowDigits
-shared-digits F p K positive rest d s D L dp h whole =
+shared-digits R F p K positive rest d s D L dp h whole =
     let X⁺ = sideSum F plus (exactTimes F p D) 0 L in
     let X⁻ = sideSum F minus (exactTimes F p D) 0 L in
     let total = sizesSum F p K in
-    let a = charges F plus p K in
-    let b = charges F minus p K in
+    let a = charges R F plus p K in
+    let b = charges R F minus p K in
     ap (hexText d)
     (settles D (16 ^ d) (unitAt d) total a b X⁺ X⁻ (quotient (subℕ total (b + 1)) (unitAt d)) dp (pow-pos (128 - 4 * d))
     (subst (λ (x : ℕ). 0 < x) (pow-step 4 d) (pow-pos (4 * d))) modulus (split-modulus d (s .1))
-    (near F p K positive rest D L dp h whole) refl (sym (s .2)))
+    (near R F p K positive rest D L dp h whole) refl (sym (s .2)))

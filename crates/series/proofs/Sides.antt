@@ -4,11 +4,13 @@
 use mathlib.Core.Path.{_≡_, refl, sym, ap, ap₂, _∙_}
 use mathlib.Core.Bool.{Bool, true, false, not, cond}
 use mathlib.Core.List.{List, [], _∷_, List·Memᴰ, List·Memᴰ·head, List·Memᴰ·tail}
-use Prim.Native.Nat.{ℕ, _+_, _*_, _%_, _≤_, _<_}
+use Prim.Native.Nat.{ℕ, suc, _+_, _*_, _%_, _≤_, _<_}
 use native.Mathlib.Nat.{le-refl, mul-zero}
 use native.Mathlib.Omega.{arith}
 use lib.Dec.{eqb}
-use Rattle.algebra.proofs.Sums.{sum-le, sum-ext, sum-add, sum-mul, sum-split}
+use lib.ListN.{getD, length}
+use Rattle.algebra.specs.Sum.{sum}
+use Rattle.algebra.proofs.Sums.{sum-le, sum-ext, sum-zero, sum-add, sum-mul, sum-split, sum-none, sum-next, sum-shift}
 use Rattle.series.specs.Series.{Row, Formula, Side, isAdded, rowSum, overRows, sideSum, onSide}
 
 -- the sign of a term depends on k being even or odd alone
@@ -38,6 +40,19 @@ module _ (F : Formula) (side : Side) where
   unfolding rowSum
   row-le r v w first count h = sum-le _ _ first count (λ k l u. cond-le (onSide F side r k) (h k l u))
 
+  pub row-ext : (r : Row) (v w : ℕ → ℕ) (first count : ℕ) → ((k : ℕ) → first ≤ k → k < first + count → v k ≡ w k)
+      → rowSum F side r v first count ≡ rowSum F side r w first count
+  unfolding rowSum
+  row-ext r v w first count h = sum-ext _ _ first count (λ k l u. ap (λ (x : ℕ). cond (onSide F side r k) x 0) (h k l u))
+
+  pub row-none : (r : Row) (first count : ℕ) → rowSum F side r (λ k. 0) first count ≡ 0
+  unfolding rowSum
+  row-none r first count = sum-zero _ first count (λ k. nothing (onSide F side r k))
+    where
+      nothing : (b : Bool) → _≡_ {A = ℕ} (cond b 0 0) 0
+      nothing true = refl
+      nothing false = refl
+
   row-add : (r : Row) (v w : ℕ → ℕ) (first count : ℕ)
       → rowSum F side r (λ k. v k + w k) first count ≡ rowSum F side r v first count + rowSum F side r w first count
   unfolding rowSum
@@ -65,12 +80,12 @@ over-le f g (r ∷ rs) h =
     let b = over-le f g rs (λ x m. h x (List·Memᴰ·tail m)) in
     omega arith
 
-pub over-ext : (f g : Row → ℕ) (rs : List Row) → ((r : Row) → f r ≡ g r) → overRows f rs ≡ overRows g rs
+pub over-ext : (f g : Row → ℕ) (rs : List Row) → ((r : Row) → List·Memᴰ r rs → f r ≡ g r) → overRows f rs ≡ overRows g rs
 unfolding overRows
 over-ext f g [] h = refl
-over-ext f g (r ∷ rs) h = ap₂ _+_ (h r) (over-ext f g rs h)
+over-ext f g (r ∷ rs) h = ap₂ _+_ (h r (List·Memᴰ·head refl)) (over-ext f g rs (λ x m. h x (List·Memᴰ·tail m)))
 
-over-add : (f g : Row → ℕ) (rs : List Row) → overRows (λ r. f r + g r) rs ≡ overRows f rs + overRows g rs
+pub over-add : (f g : Row → ℕ) (rs : List Row) → overRows (λ r. f r + g r) rs ≡ overRows f rs + overRows g rs
 unfolding overRows
 over-add f g [] = refl
 over-add f g (r ∷ rs) = let a = over-add f g rs in omega arith
@@ -90,14 +105,25 @@ module _ (F : Formula) (side : Side) where
   pub side-add : (v w : Row → ℕ → ℕ) (first count : ℕ)
       → sideSum F side (λ r k. v r k + w r k) first count ≡ sideSum F side v first count + sideSum F side w first count
   unfolding sideSum
-  side-add v w first count = over-ext _ _ (F .rows) (λ r. row-add F side r (v r) (w r) first count) ∙ over-add _ _ (F .rows)
+  side-add v w first count = over-ext _ _ (F .rows) (λ r m. row-add F side r (v r) (w r) first count) ∙ over-add _ _ (F .rows)
 
   pub side-mul : (d : ℕ) (v : Row → ℕ → ℕ) (first count : ℕ)
       → sideSum F side (λ r k. d * v r k) first count ≡ d * sideSum F side v first count
   unfolding sideSum
-  side-mul d v first count = over-ext _ _ (F .rows) (λ r. row-mul F side r d (v r) first count) ∙ over-mul d _ (F .rows)
+  side-mul d v first count = over-ext _ _ (F .rows) (λ r m. row-mul F side r d (v r) first count) ∙ over-mul d _ (F .rows)
 
   pub side-split : (v : Row → ℕ → ℕ) (first c d : ℕ)
       → sideSum F side v first (c + d) ≡ sideSum F side v first c + sideSum F side v (first + c) d
   unfolding sideSum
-  side-split v first c d = over-ext _ _ (F .rows) (λ r. row-split F side r (v r) first c d) ∙ over-add _ _ (F .rows)
+  side-split v first c d = over-ext _ _ (F .rows) (λ r m. row-split F side r (v r) first c d) ∙ over-add _ _ (F .rows)
+
+-- rows by their numbers are the table's rows
+pub by-number : (f : Row → ℕ) (rs : List Row) (z : Row) → sum (λ n. f (getD rs n z)) 0 (length rs) ≡ overRows f rs
+unfolding overRows
+by-number f [] z = sum-none (λ n. f (getD [] n z)) 0
+by-number f (r ∷ rs) z =
+    let g : ℕ → ℕ = λ n. f (getD (r ∷ rs) n z) in
+    let one : sum g 0 1 ≡ f r = (let e = sum-next g 0 0 in let n = sum-none g 0 in omega (arith, e, n)) in
+    let q : suc (length rs) ≡ 1 + length rs = omega arith in
+    ap (sum g 0) q ∙ sum-split g 0 1 (length rs)
+    ∙ ap₂ _+_ one (sum-shift g (λ n. f (getD rs n z)) (length rs) (λ n. refl) ∙ by-number f rs z)

@@ -1,9 +1,8 @@
 -- The blocks of a row hold each of the terms 0 to K - 1 exactly once, so that the tickets' sums add up to the sum of all sizes.
 -- Assumes nothing.
-use mathlib.Core.Path.{_≡_, refl, sym, ap, ap₂, _∙_, subst}
+use mathlib.Core.Path.{_≡_, refl, sym, ap, _∙_, subst}
 use mathlib.Core.Bool.{Bool, true, false}
 use mathlib.Core.Logic.{_⊎_, inl, inr, ⊎-elim}
-use mathlib.Core.List.{List, [], _∷_}
 use Prim.Native.Nat.{ℕ, zero, suc, _+_, _*_, _-_, _/_, _%_, _≤_, _<_}
 use native.Mathlib.Nat.{zero-add, zero-mul, zero-div, mul-div-right, mod-add-div, mod-lt}
 use native.Mathlib.Numerals.{add-one}
@@ -11,15 +10,13 @@ use native.Mathlib.Omega.{arith}
 use borrow.Author.Tests.{ltb-true, ltb-false}
 use lib.Dec.{ltb}
 use lib.IntN.{subℕ}
-use lib.ListN.{getD, length}
 use lib.Pow.{pow-pos}
 use Rattle.algebra.specs.Sum.{sum}
 use Rattle.algebra.specs.Whole.{residue}
 use Rattle.algebra.proofs.Booleans.{below-or}
-use Rattle.algebra.proofs.Sums.{sum-none, sum-next, sum-split, sum-shift}
 use Rattle.algebra.proofs.Integers.{diff-sub, residue-is, residue-lt, same-residue, turns, back}
-use Rattle.series.specs.Series.{Row, Formula, Side, plus, minus, modulus, row, rowAt, rowCount, termCount, size, rowSum, overRows, sideSum, rangeSum, sizesSum}
-use Rattle.series.proofs.Sides.{row-split}
+use Rattle.series.specs.Series.{Row, Formula, Side, plus, minus, modulus, row, rowAt, rowCount, termCount, size, rowSum, sideSum, rangeSum, sizesSum}
+use Rattle.series.proofs.Sides.{row-split, by-number}
 use Rattle.run.specs.Run.{bound, ticketSum}
 use Rattle.run.proofs.Blocks.{bound-grows}
 use Rattle.settlement.specs.Settlement.{allSums}
@@ -90,17 +87,6 @@ module _ (F : Formula) (side : Side) (r : Row) (v : ℕ → ℕ) (b : ℕ → �
       let h = telescope C in
       let f = ap (rowSum F side r v 0) e in
       omega (arith, cut, z, y, h, f)
-
--- rows by their numbers are the table's rows
-by-number : (f : Row → ℕ) (rs : List Row) (z : Row) → sum (λ n. f (getD rs n z)) 0 (length rs) ≡ overRows f rs
-unfolding overRows
-by-number f [] z = sum-none (λ n. f (getD [] n z)) 0
-by-number f (r ∷ rs) z =
-    let g : ℕ → ℕ = λ n. f (getD (r ∷ rs) n z) in
-    let one : sum g 0 1 ≡ f r = (let e = sum-next g 0 0 in let n = sum-none g 0 in omega (arith, e, n)) in
-    let q : suc (length rs) ≡ 1 + length rs = omega arith in
-    ap (sum g 0) q ∙ sum-split g 0 1 (length rs)
-    ∙ ap₂ _+_ one (sum-shift g (λ n. f (getD rs n z)) (length rs) (λ n. refl) ∙ by-number f rs z)
 
 -- equations between sums, from one for each number
 sum-eq : (m : ℕ) (f g h a b : ℕ → ℕ) → ((i : ℕ) → f i + m * a i ≡ g i + h i + m * b i)

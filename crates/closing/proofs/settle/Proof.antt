@@ -1,7 +1,7 @@
--- `closing::settle` meets its contract: K, a and b are those of the ledger's run.
+-- `closing::settle` meets its contract: a and b are those of the ledger's run.
 -- Assumes nothing.
 use denote.Ref.{now}
-use Rattle.closing.proofs.Closing.{position-read, count-small, settle-is}
+use Rattle.closing.proofs.Closing.{position-read, settle-is}
 use borrow.Author.Needs.{needs}
 use Rattle.closing.proofs.settle.Statement.{statement}
 use Rattle.closing.proofs.settle.Tie as tie
@@ -9,18 +9,15 @@ use Rattle.closing.proofs.settle.Tie as tie
 get-requires : tie.Need-get-requires
 get-requires c κs = search needs
 
-term-count-requires : tie.Need-term-count-requires
-term-count-requires c κs = position-read _ (now (c .before .before .args .ledger)) _ (c .before .before .pre) (c .get .ensures)
+in-run-requires : tie.Need-in-run-requires
+in-run-requires c κs =
+    let start = c .before .before in
+    position-read _ (now (start .args .ledger)) _ (start .pre) (c .get .ensures)
 
-charges-requires : tie.Need-charges-requires
-charges-requires c κs =
+in-run-requires-2 : tie.Need-in-run-requires-2
+in-run-requires-2 c κs =
     let start = c .before .before .before in
-    count-small (start .args .f) _ _ (position-read _ (now (start .args .ledger)) _ (start .pre) (c .before .get .ensures)) (c .term-count .ensures)
-
-charges-requires-2 : tie.Need-charges-requires-2
-charges-requires-2 c κs =
-    let start = c .before .before .before .before in
-    count-small (start .args .f) _ _ (position-read _ (now (start .args .ledger)) _ (start .pre) (c .before .before .get .ensures)) (c .before .term-count .ensures)
+    position-read _ (now (start .args .ledger)) _ (start .pre) (c .before .get .ensures)
 
 total-requires : tie.Need-total-requires
 total-requires c κs = search needs
@@ -30,19 +27,17 @@ settled-digits-requires c κs = search needs
 
 returns : tie.Need-returns
 returns c =
-    let count = c .before .before .before .before in
-    settle-is _ (now (count .before .before .before .args .ledger)) _ _ _ _ (count .before .get .ensures) (count .term-count .ensures)
-    (c .before .before .charges2 .ensures .0 _) (c .before .total .ensures) _ _ (c .before .before .before .charges .ensures .0 _)
-    (c .settled-digits .ensures)
+    let a = c .before .before .before in
+    settle-is _ (now (a .before .before .before .args .ledger)) _ _ _ (a .before .get .ensures) (c .before .before .in-run2 .ensures .0)
+    (c .before .total .ensures) _ _ (a .in-run .ensures .0) (c .settled-digits .ensures)
 
 pub settle-spec : {M : Type 1} → statement M
 settle-spec =
     tie.close
     (tie.spec
     get-requires
-    term-count-requires
-    charges-requires
-    charges-requires-2
+    in-run-requires
+    in-run-requires-2
     total-requires
     settled-digits-requires
     returns)
