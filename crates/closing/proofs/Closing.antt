@@ -2,7 +2,7 @@
 -- Assumes nothing.
 use mathlib.Core.Path.{_≡_, refl, sym, ap, _∙_, subst}
 use mathlib.Core.Bool.{Bool, true, false, not, cond}
-use mathlib.Core.List.{List, _++_}
+use mathlib.Core.List.{List, [], _∷_, _++_}
 use Prim.Native.Nat.{ℕ, zero, suc, _+_, _-_, _/_, _%_, _^_, _<_, _≤_}
 use native.Mathlib.Omega.{arith}
 use borrow.Author.Tests.{eqb-true, eqb-false, not-false, eq-eqb, ne-eqb, ltb-true, ltb-false}
@@ -19,17 +19,17 @@ use Rattle.series.specs.Fitting.{Position}
 use Rattle.series.specs.Names.{formulaOf}
 use Rattle.series.specs.declared.Series.{Series}
 use Rattle.series.specs.declared.Series.the-variants.{Bellard, Check}
-use Rattle.interval.specs.Interval.{isCharged, low, high, charges, unitAt}
+use Rattle.interval.specs.Interval.{Rule, isCharged, low, high, charges, unitAt}
 use Rattle.interval.specs.Digits.{settledUpTo, settled, lowDigits}
-use Rattle.run.specs.Refusal.{refusal}
+use Rattle.run.specs.Refusal.{_⇐_, refusal}
 use Rattle.run.specs.Run.{Limits, limitsOf, inRange}
 use Rattle.run.proofs.Range.{Range, range-of, is-ticket}
 use Rattle.run.specs.Answers.{answerOf}
 use Rattle.run.specs.declared.Answer.{Answer}
 use Rattle.run.specs.declared.Answer.the-variants.{Finished, Refused}
 use Rattle.run.specs.declared.Refusal.{Refusal}
-use Rattle.run.proofs.Answering.{passes, refused, finished, changed, was-finished, was-refused}
-use Rattle.ledger.specs.Ledger.{viewOf, ledgerSize, posIn, blocksIn, totalIn, bitIn, markIn, inOrder}
+use Rattle.run.proofs.Answering.{passes, skipped, refused, finished, changed, was-finished, was-refused}
+use Rattle.ledger.specs.Ledger.{View, viewOf, ledgerSize, posIn, blocksIn, totalIn, bitIn, markIn, inOrder}
 use Rattle.closing.specs.Closing.{Ordered, lowOf, highOf, settledAt, digitsAt, closeRefusal, closingAnswer, closingBytes, closeAnswer, closeBytes}
 use Rattle.closing.proofs.TopDigits.{negative-none, sub-pos, sub-exact}
 
@@ -130,19 +130,19 @@ unfolding settledAt settled
 settled-few F p total = settled-at-most (lowOf isCharged F p total) (highOf isCharged F p total) 32
 
 -- it is not below 0
-pub low-in : (F : Formula) (p total : ℕ) → (settledAt isCharged F p total ≡ 0 → ⊥) → charges isCharged F minus p (termCount F p) + 1 ≤ total
+pub low-in : (R : Rule) (F : Formula) (p total : ℕ) → (settledAt R F p total ≡ 0 → ⊥) → charges R F minus p (termCount F p) + 1 ≤ total
 unfolding settledAt low high
-low-in F p total n = go (ltb total (charges isCharged F minus p (termCount F p) + 1)) refl
+low-in R F p total n = go (ltb total (charges R F minus p (termCount F p) + 1)) refl
   where
-    go : (b : Bool) → ltb total (charges isCharged F minus p (termCount F p) + 1) ≡ b → charges isCharged F minus p (termCount F p) + 1 ≤ total
-    go true e = absurd (n (sym (negative-none total (charges isCharged F minus p (termCount F p) + 1) (total + charges isCharged F plus p (termCount F p) + 1) (ltb-true _ _ e))))
+    go : (b : Bool) → ltb total (charges R F minus p (termCount F p) + 1) ≡ b → charges R F minus p (termCount F p) + 1 ≤ total
+    go true e = absurd (n (sym (negative-none total (charges R F minus p (termCount F p) + 1) (total + charges R F plus p (termCount F p) + 1) (ltb-true _ _ e))))
     go false e = ltb-false _ _ e
 
 pub low-is : (F : Formula) (M p total r : ℕ) → (settledAt isCharged F p total ≡ 0 → ⊥) → total < M → r < M
     → (r + (charges isCharged F minus p (termCount F p) + 1)) % M ≡ total → lowOf isCharged F p total ≡ pos r
 unfolding low
 low-is F M p total r n h l e =
-    let i = low-in F p total n in
+    let i = low-in isCharged F p total n in
     sub-pos total (charges isCharged F minus p (termCount F p) + 1) i ∙ ap pos (sym (sub-exact M total (charges isCharged F minus p (termCount F p) + 1) r h l i e))
 
 -- ---- what the code reads of a ledger
@@ -198,6 +198,20 @@ tested F s out e =
       room = eqb-true _ _ (not-false _ (sizes .1));
       some = eqb-false (settledAt isCharged F (posIn s) (totalIn (limitsOf F) s)) 0 (e₉ .0);
     }
+
+-- where a ledger is not refused, another total or another rule can bring 9 alone
+last-test : (c : Bool) → refusal ((9 ⇐ c) ∷ []) ≡ cond c 9 0
+unfolding refusal
+last-test c = refl
+
+pub nine-alone : (R S : Rule) (F : Formula) (v : View) (total other : ℕ) (out : List ℕ) → closeRefusal R F v total out ≡ 0
+    → closeRefusal S F v other out ≡ cond (eqb (settledAt S F (v .p) other) 0) 9 0
+unfolding closeRefusal
+nine-alone R S F v total other out e =
+    let e₁ = passes 0 _ _ e in
+    let e₅ = passes 4 _ _ (e₁ .1) in
+    let e₈ = passes 7 _ _ (e₅ .1) in
+    skipped 1 _ _ (e₁ .0) ∙ skipped 5 _ _ (e₅ .0) ∙ skipped 8 _ _ (e₈ .0) ∙ last-test _
 
 pub was-closed : (F : Formula) (s out : List ℕ) (a : Answer) (d : ℕ) → answerOf a ≡ closeAnswer F s out → a ≡ Finished d
     → (closeRefusal isCharged F (viewOf (limitsOf F) s) (totalIn (limitsOf F) s) out ≡ 0) × (d ≡ settledAt isCharged F (posIn s) (totalIn (limitsOf F) s))

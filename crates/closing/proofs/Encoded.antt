@@ -8,18 +8,22 @@ use Rattle.series.specs.Series.{Formula, modulus}
 use Rattle.series.specs.Names.{formulaOf}
 use Rattle.series.specs.declared.Series.{Series}
 use Rattle.series.specs.declared.Series.the-variants.{Bellard, Check}
-use Rattle.interval.specs.Interval.{isCharged}
+use Rattle.interval.specs.Interval.{Rule, isCharged}
 use Rattle.run.specs.Run.{limitsOf, inRange}
-use Rattle.ledger.specs.Ledger.{View, totalOf}
+use Rattle.ledger.specs.Ledger.{View, viewOf, totalIn, totalOf}
 use Rattle.ledger.specs.Plain.{Plain, plainView, encode, fullPlain}
 use Rattle.ledger.proofs.Image.{Good, view-encode, total-encode}
 use Rattle.closing.specs.Closing.{closingAnswer, closingBytes, closeAnswer, closeBytes}
 
 module _ (F : Formula) (s : Plain) (good : Good (limitsOf F) s) (out : List ℕ) where
+  -- by whatever rule terms are charged
+  pub answer-by : (R : Rule) → closingAnswer R F (viewOf (limitsOf F) (encode (limitsOf F) s)) (totalIn (limitsOf F) (encode (limitsOf F) s)) out
+      ≡ closingAnswer R F (plainView s) (totalOf (limitsOf F) (s .sums)) out
+  answer-by R = ap₂ (λ (v : View) (t : ℕ). closingAnswer R F v t out) (view-encode (limitsOf F) s good) (total-encode (limitsOf F) s good)
+
   pub answer-encoded : closeAnswer F (encode (limitsOf F) s) out ≡ closingAnswer isCharged F (plainView s) (totalOf (limitsOf F) (s .sums)) out
   unfolding closeAnswer
-  answer-encoded =
-      ap₂ (λ (v : View) (t : ℕ). closingAnswer isCharged F v t out) (view-encode (limitsOf F) s good) (total-encode (limitsOf F) s good)
+  answer-encoded = answer-by isCharged
 
   pub bytes-encoded : closeBytes F (encode (limitsOf F) s) out ≡ closingBytes isCharged F (plainView s) (totalOf (limitsOf F) (s .sums)) out
   unfolding closeBytes

@@ -2,14 +2,15 @@
 -- Assumes nothing.
 use mathlib.Core.Path.{_≡_, refl, sym, ap, _∙_, subst}
 use mathlib.Core.Bool.{Bool, true, false}
-use Prim.Native.Nat.{ℕ, zero, suc, _+_, _*_, _-_, _/_, _%_, _^_, _<_, _≤_}
-use native.Mathlib.Nat.{add-mul-div-right, add-mul-mod-self-right, div-div-eq-div-mul, div-eq-of-lt, mod-add-div', mod-eq-of-lt, mul-add-mod-self-left, pow-suc, not-suc-le-zero, le-of-suc-le-suc, div-lt-iff-lt-mul, le-div-iff-mul-le}
+use Prim.Native.Nat.{ℕ, zero, suc, _+_, _*_, _-_, _/_, _%_, _^_, _<_, _≤_, min}
+use native.Mathlib.Nat.{add-mul-div-right, add-mul-mod-self-right, div-div-eq-div-mul, div-eq-of-lt, mod-add-div', mod-eq-of-lt, mul-add-mod-self-left, pow-suc, not-suc-le-zero, le-of-suc-le-suc, div-lt-iff-lt-mul, le-div-iff-mul-le, min-eq-left}
 use native.Mathlib.Omega.{arith}
 use borrow.Author.Tests.{ltb-true, ltb-false, lt-ltb, le-ltb}
 use lib.Dec.{ltb}
 use lib.IntN.{ℤ, pos, negsuc, subℕ, pos-ne-negsuc}
-use lib.ListN.{length, getD}
+use lib.ListN.{length, getD, take, length-take}
 use lib.Pow.{pow-pos, pow-add}
+use lib.Seq.{ext-getD, getD-take}
 use Rattle.algebra.specs.Whole.{residue}
 use Rattle.algebra.proofs.Integers.{sub-cases}
 use Rattle.words.specs.Words.{joined}
@@ -235,3 +236,13 @@ text-digit x d i h l =
 pub length-low : (d : ℕ) (z : ℤ) → length (lowDigits d z) ≡ d
 unfolding lowDigits
 length-low d z = length-text d (residue (16 ^ d) z)
+
+-- the first d of more digits
+pub fewer-digits : (x d e : ℕ) → d ≤ e → e ≤ 32 → take d (lowDigits e (pos (x / unitAt e))) ≡ lowDigits d (pos (x / unitAt d))
+fewer-digits x d e h l =
+    let long = length-low e (pos (x / unitAt e)) in
+    let short = length-low d (pos (x / unitAt d)) in
+    let size : length (take d (lowDigits e (pos (x / unitAt e)))) ≡ d = length-take d _ ∙ ap (min d) long ∙ min-eq-left h in
+    ext-getD 0 _ _ (size ∙ sym short) (λ i m.
+    let j : i < d = subst (λ (n : ℕ). i < n) size m in
+    getD-take d _ i 0 j ∙ text-digit x e i l (omega arith) ∙ sym (text-digit x d i (omega arith) j))

@@ -28,16 +28,16 @@ use Rattle.closing_line.specs.Figures.{refusedOne, Figures}
 
 full-line : (sums : ℕ → ℕ) → ((row : ℕ) → sums row < modulus) → (total : ℕ) → totalOf (limitsOf bellard) sums ≡ total
     → closingLine bellard (fullLedger (limitsOf bellard) sums)
-    ≡ lineOf (closingAnswer bellard (plainView (fullPlain (limitsOf bellard) sums)) total (replicate 32 0)) 1
-    (closingBytes bellard (plainView (fullPlain (limitsOf bellard) sums)) total (replicate 32 0))
+    ≡ lineOf (closingAnswer isCharged bellard (plainView (fullPlain (limitsOf bellard) sums)) total (replicate 32 0)) 1
+    (closingBytes isCharged bellard (plainView (fullPlain (limitsOf bellard) sums)) total (replicate 32 0))
 unfolding closingLine fullLedger
 full-line sums fit total e =
     let s = fullPlain (limitsOf bellard) sums in
     let good = good-full Bellard sums fit in
     ap₂ (λ (a : ℤ) (n : ℕ). lineOf a n (closeBytes bellard (fullLedger (limitsOf bellard) sums) (replicate 32 0)))
     (answer-encoded bellard s good (replicate 32 0)) (pos-encode (limitsOf bellard) s good)
-    ∙ ap (lineOf (closingAnswer bellard (plainView s) (totalOf (limitsOf bellard) sums) (replicate 32 0)) 1) (bytes-encoded bellard s good (replicate 32 0))
-    ∙ ap (λ (t : ℕ). lineOf (closingAnswer bellard (plainView s) t (replicate 32 0)) 1 (closingBytes bellard (plainView s) t (replicate 32 0))) e
+    ∙ ap (lineOf (closingAnswer isCharged bellard (plainView s) (totalOf (limitsOf bellard) sums) (replicate 32 0)) 1) (bytes-encoded bellard s good (replicate 32 0))
+    ∙ ap (λ (t : ℕ). lineOf (closingAnswer isCharged bellard (plainView s) t (replicate 32 0)) 1 (closingBytes isCharged bellard (plainView s) t (replicate 32 0))) e
 
 -- a ledger of another size
 other-size : (s : List ℕ) → (length s ≡ 352 → ⊥) → closingLine bellard s ≡ refusedOne
@@ -49,7 +49,7 @@ pub figures-hold : Figures
 unfolding lineOf finishedLine refusedLine decimalWithin plainView termCount closingAnswer closingBytes closeRefusal refusal answer settledAt digitsAt settled settledUpTo low high sameℤ allBelow isTicket charges sideSum overRows rowSum sum onSide isAdded isCharged lowDigits hexText hexDigit residue
 figures-hold = record {
   fifty = λ sums fit e. full-line sums fit 50 e;
-  forty-nine = λ sums fit e. full-line sums fit 49 e;
+  forty-eight = λ sums fit e. full-line sums fit 48 e;
   no-byte = other-size [] (λ e. omega (arith, e));
   old-size = λ s h. other-size s (λ e. omega (arith, e, h));
   last-position = refl;

@@ -19,8 +19,8 @@ pub record Figures : Type 0 where
   -- 1 30 000000000000000000000000000000: p = 1, C = 1, all marked, with sums of the rows, any at all, that have total 50
   pub fifty : (sums : ℕ → ℕ) → ((row : ℕ) → sums row < modulus) → totalOf (limitsOf bellard) sums ≡ 50
       → closingLine bellard (fullLedger (limitsOf bellard) sums) ≡ 49 ∷ 32 ∷ 51 ∷ 48 ∷ 32 ∷ replicate 30 48 ++ 10 ∷ []
-  -- refused 9: the same with total 49
-  pub forty-nine : (sums : ℕ → ℕ) → ((row : ℕ) → sums row < modulus) → totalOf (limitsOf bellard) sums ≡ 49
+  -- refused 9: the same with total 48
+  pub forty-eight : (sums : ℕ → ℕ) → ((row : ℕ) → sums row < modulus) → totalOf (limitsOf bellard) sums ≡ 48
       → closingLine bellard (fullLedger (limitsOf bellard) sums) ≡ 114 ∷ 101 ∷ 102 ∷ 117 ∷ 115 ∷ 101 ∷ 100 ∷ 32 ∷ 57 ∷ 10 ∷ []
   pub no-byte : closingLine bellard [] ≡ refusedOne
   -- a ledger of 256 bytes, as it was with one total

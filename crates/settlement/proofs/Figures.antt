@@ -34,27 +34,27 @@ module _ (f : Series) (sums : ℕ → ℕ) (fit : (row : ℕ) → sums row < mod
   full = fullPlain (limitsOf (formulaOf f)) sums
 
   full-closing : (total : ℕ) (a : ℤ) (digits : List ℕ) → totalOf (limitsOf (formulaOf f)) sums ≡ total
-      → closingAnswer (formulaOf f) (plainView full) total (replicate 32 0) ≡ a
-      → closingBytes (formulaOf f) (plainView full) total (replicate 32 0) ≡ digits
+      → closingAnswer isCharged (formulaOf f) (plainView full) total (replicate 32 0) ≡ a
+      → closingBytes isCharged (formulaOf f) (plainView full) total (replicate 32 0) ≡ digits
       → (closeAnswer (formulaOf f) (fullLedger (limitsOf (formulaOf f)) sums) (replicate 32 0) ≡ a)
       × (closeBytes (formulaOf f) (fullLedger (limitsOf (formulaOf f)) sums) (replicate 32 0) ≡ digits)
   unfolding fullLedger
   full-closing total a digits e k g = (
     answer-encoded (formulaOf f) full (good-full f sums fit) (replicate 32 0)
-        ∙ ap (λ (n : ℕ). closingAnswer (formulaOf f) (plainView full) n (replicate 32 0)) e ∙ k,
+        ∙ ap (λ (n : ℕ). closingAnswer isCharged (formulaOf f) (plainView full) n (replicate 32 0)) e ∙ k,
     bytes-encoded (formulaOf f) full (good-full f sums fit) (replicate 32 0)
-        ∙ ap (λ (n : ℕ). closingBytes (formulaOf f) (plainView full) n (replicate 32 0)) e ∙ g,
+        ∙ ap (λ (n : ℕ). closingBytes isCharged (formulaOf f) (plainView full) n (replicate 32 0)) e ∙ g,
   )
 
 pub figures-hold : AllHold bellard figures
 unfolding AllHold Holds plainView size termCount closingAnswer closingBytes closeRefusal refusal answer settledAt digitsAt settled settledUpTo low high sameℤ allBelow isTicket charges sideSum overRows rowSum sum onSide isAdded isCharged lowDigits hexText hexDigit residue
 figures-hold =
-    (refl, (refl, (refl, (refl, (refl, ((refl, refl), ((refl, refl), (refl, (refl, (refl, (refl, (λ sums fit e. full-closing Bellard sums fit _ _ _ e refl refl, (λ sums fit e. full-closing Bellard sums fit _ _ _ e refl refl, (λ sums fit e. full-closing Bellard sums fit _ _ _ e refl refl, (λ sums fit e. full-closing Bellard sums fit _ _ _ e refl refl, tt)))))))))))))))
+    (refl, (refl, (refl, (refl, (refl, ((refl, refl), ((refl, refl), (refl, (refl, (refl, (refl, ((refl, refl), (λ sums fit e. full-closing Bellard sums fit _ _ _ e refl refl, (λ sums fit e. full-closing Bellard sums fit _ _ _ e refl refl, (λ sums fit e. full-closing Bellard sums fit _ _ _ e refl refl, (λ sums fit e. full-closing Bellard sums fit _ _ _ e refl refl, tt))))))))))))))))
 
 pub check-figures-hold : AllHold check checkFigures
 unfolding AllHold Holds plainView size termCount closingAnswer closingBytes closeRefusal refusal answer settledAt digitsAt settled settledUpTo low high sameℤ allBelow isTicket charges sideSum overRows rowSum sum onSide isAdded isCharged lowDigits hexText hexDigit residue
 check-figures-hold =
-    ((refl, refl), ((refl, refl), ((refl, refl), ((refl, refl), ((refl, refl), ((refl, refl), (refl, (refl, (refl, (refl, (λ sums fit e. full-closing Check sums fit _ _ _ e refl refl, (λ sums fit e. full-closing Check sums fit _ _ _ e refl refl, (λ sums fit e. full-closing Check sums fit _ _ _ e refl refl, (λ sums fit e. full-closing Check sums fit _ _ _ e refl refl, tt))))))))))))))
+    ((refl, refl), ((refl, refl), ((refl, refl), ((refl, refl), ((refl, refl), ((refl, refl), (refl, (refl, (refl, (refl, ((refl, refl), (λ sums fit e. full-closing Check sums fit _ _ _ e refl refl, (λ sums fit e. full-closing Check sums fit _ _ _ e refl refl, (λ sums fit e. full-closing Check sums fit _ _ _ e refl refl, (λ sums fit e. full-closing Check sums fit _ _ _ e refl refl, tt)))))))))))))))
 
 -- ---- sums with a given total
 

@@ -31,16 +31,16 @@ use Rattle.settlement.proofs.Partition.{all-tickets}
 use Rattle.settlement.proofs.Runs.{every-formula, asked}
 
 module _ (F : Formula) (premises : Asked F) (p d : ℕ) (digits : List ℕ) (some : 0 < d)
-    (count-is : settledAt F p (sizesSum F p (termCount F p)) ≡ d)
-    (digits-are : digitsAt F p (sizesSum F p (termCount F p)) d ≡ digits) where
+    (count-is : settledAt isCharged F p (sizesSum F p (termCount F p)) ≡ d)
+    (digits-are : digitsAt isCharged F p (sizesSum F p (termCount F p)) d ≡ digits) where
   K : ℕ
   K = termCount F p
 
   lo : ℤ
-  lo = lowOf F p (sizesSum F p K)
+  lo = lowOf isCharged F p (sizesSum F p K)
 
   hi : ℤ
-  hi = highOf F p (sizesSum F p K)
+  hi = highOf isCharged F p (sizesSum F p K)
 
   greatest : Greatest lo hi d
   unfolding settledAt lo hi K
@@ -55,7 +55,7 @@ module _ (F : Formula) (premises : Asked F) (p d : ℕ) (digits : List ℕ) (som
         r .0,
         r .1 (w .0) K (w .1) (le-refl K) (w .2)
             ∙ ap (λ (l : List ℕ). l ++ drop d out)
-            (any-rows F p K (premises .positive) (premises .rest p) .digits d (greatest .settles) (w .0) K (w .1) (le-refl K) (w .2) ∙ digits-are),
+            (any-rows isCharged F p K (premises .positive) (premises .rest p) .digits d (greatest .settles) (w .0) K (w .1) (le-refl K) (w .2) ∙ digits-are),
       )
 
   pub closes-with : ClosesWith F p d digits
@@ -65,11 +65,11 @@ module _ (F : Formula) (premises : Asked F) (p d : ℕ) (digits : List ℕ) (som
       let r = range-of (limitsOf F) p C range in
       let e : finalTotal F p C posts ≡ sizesSum F p K = s .total f ∙ all-tickets F p C (r .C-low) in
       exact-digits (postsBytes (limitsOf F) (fresh (limitsOf F) p C) posts) out
-      (subst (λ (t : ℕ). Closed F p (lowOf F p t) (highOf F p t) (postsBytes (limitsOf F) (fresh (limitsOf F) p C) posts) out) e (s .closing f out room))
+      (subst (λ (t : ℕ). Closed F p (lowOf isCharged F p t) (highOf isCharged F p t) (postsBytes (limitsOf F) (fresh (limitsOf F) p C) posts) out) e (s .closing f out room))
 
 -- at position 1, worked out by antt from the rows of either formula
-at-1 : (f : Series) (d : ℕ) (digits : List ℕ) → 0 < d → settledAt (formulaOf f) 1 (sizesSum (formulaOf f) 1 (termCount (formulaOf f) 1)) ≡ d
-    → digitsAt (formulaOf f) 1 (sizesSum (formulaOf f) 1 (termCount (formulaOf f) 1)) d ≡ digits → ClosesWith (formulaOf f) 1 d digits
+at-1 : (f : Series) (d : ℕ) (digits : List ℕ) → 0 < d → settledAt isCharged (formulaOf f) 1 (sizesSum (formulaOf f) 1 (termCount (formulaOf f) 1)) ≡ d
+    → digitsAt isCharged (formulaOf f) 1 (sizesSum (formulaOf f) 1 (termCount (formulaOf f) 1)) d ≡ digits → ClosesWith (formulaOf f) 1 d digits
 at-1 f d digits = closes-with (formulaOf f) (asked f) 1 d digits
 
 pub first-digits : FirstDigits

@@ -3,6 +3,7 @@ pub mod Filling
 pub mod Filler
 pub mod Theorem
 pub mod OneTotal
+pub mod EveryTerm
 pub mod Figures
 pub mod FirstDigits
 pub mod Agreement

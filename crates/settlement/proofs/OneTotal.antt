@@ -10,6 +10,7 @@ use lib.Dec.{eqb}
 use lib.IntN.{ℤ}
 use Rattle.algebra.proofs.Sums.{sum-zero, sum-bump-rem}
 use Rattle.series.specs.Series.{Formula, modulus}
+use Rattle.interval.specs.Interval.{isCharged}
 use Rattle.run.specs.Refusal.{answer}
 use Rattle.run.specs.Run.{Limits, limitsOf, inRange}
 use Rattle.run.proofs.Range.{ticket-row}
@@ -104,9 +105,9 @@ module _ (F : Formula) (fits : F .last < 2 ^ 64) where
             answers-are lim p C fits range posts ∙ as-answers lim (opened p C) posts ∙ ap (λ (o : OneTotal). oneAnswers lim o posts) (as-opened lim p C);
         closing = λ digits. (
           ap (λ (l : List ℕ). closeAnswer F l digits) final ∙ answer-encoded F s good digits
-              ∙ ap (λ (v : View). closingAnswer F v (totalOf lim (s .sums)) digits) (sym (same-view lim s)) ∙ ap (λ (o : OneTotal). oneCloseAnswer F o digits) one,
+              ∙ ap (λ (v : View). closingAnswer isCharged F v (totalOf lim (s .sums)) digits) (sym (same-view lim s)) ∙ ap (λ (o : OneTotal). oneCloseAnswer F o digits) one,
           ap (λ (l : List ℕ). closeBytes F l digits) final ∙ bytes-encoded F s good digits
-              ∙ ap (λ (v : View). closingBytes F v (totalOf lim (s .sums)) digits) (sym (same-view lim s)) ∙ ap (λ (o : OneTotal). oneCloseBytes F o digits) one,
+              ∙ ap (λ (v : View). closingBytes isCharged F v (totalOf lim (s .sums)) digits) (sym (same-view lim s)) ∙ ap (λ (o : OneTotal). oneCloseBytes F o digits) one,
         );
       }
 
@@ -115,8 +116,8 @@ module _ (F : Formula) (fits : F .last < 2 ^ 64) where
   unfolding closeAnswer closeBytes
   by-total s t same digits =
       let seen = same-seen (limitsOf F) s t same in (
-        ap₂ (λ (v : View) (n : ℕ). closingAnswer F v n digits) seen (same .same-total),
-        ap₂ (λ (v : View) (n : ℕ). closingBytes F v n digits) seen (same .same-total),
+        ap₂ (λ (v : View) (n : ℕ). closingAnswer isCharged F v n digits) seen (same .same-total),
+        ap₂ (λ (v : View) (n : ℕ). closingBytes isCharged F v n digits) seen (same .same-total),
       )
 
   -- Digits come out as before

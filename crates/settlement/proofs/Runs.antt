@@ -13,6 +13,7 @@ use Rattle.settlement.proofs.Agreement.{demand2}
 use Rattle.settlement.proofs.Theorem.{demand3}
 use Rattle.settlement.proofs.Facts.{facts}
 use Rattle.settlement.proofs.OneTotal.{as-before}
+use Rattle.settlement.proofs.EveryTerm.{no-wider}
 use Rattle.settlement.proofs.Filler.{filled-exists}
 
 pub every-formula : EveryFormula
@@ -22,6 +23,7 @@ every-formula F asked = record {
   demand3 = demand3 F (asked .fits .near) (asked .positive) (asked .rest);
   facts = facts F (asked .fits .near);
   as-before = as-before F (asked .fits .near);
+  no-wider = no-wider F;
   filled = λ p C. filled-exists F p C;
   whole = λ p L. whole-exists F p L (asked .positive);
 }

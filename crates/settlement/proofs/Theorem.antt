@@ -13,7 +13,7 @@ use Rattle.algebra.specs.Whole.{quotient}
 use Rattle.algebra.proofs.Below.{all-true}
 use Rattle.series.specs.Series.{Formula, rowCount, termCount, sizesSum}
 use Rattle.interval.specs.Exact.{MakesWhole, exactSum}
-use Rattle.interval.specs.Interval.{LiesFrom, Positive, RestBelowUnit, Settles, unitAt}
+use Rattle.interval.specs.Interval.{isCharged, LiesFrom, Positive, RestBelowUnit, Settles, unitAt}
 use Rattle.interval.specs.Digits.{settled, lowDigits}
 use Rattle.interval.proofs.AnyRows.{any-rows}
 use Rattle.interval.proofs.Digits.{greatest, none-settled, settled-none, one-outcome}
@@ -32,13 +32,13 @@ use Rattle.settlement.specs.Settlement.{allSums, Closed, Settled, Demand
 use Rattle.settlement.proofs.Filling.{filled-all, filled-rows, filled-total, kept-posts, kept-opened}
 use Rattle.settlement.proofs.Partition.{all-tickets}
 
-module _ (F : Formula) (fits : F .last < 2 ^ 64) (above : Positive F) (rest : (p : ℕ) → RestBelowUnit F p (termCount F p))
+module _ (F : Formula) (fits : F .last < 2 ^ 64) (above : Positive F) (rest : (p : ℕ) → RestBelowUnit isCharged F p (termCount F p))
     (p C : ℕ) (range : inRange (limitsOf F) p C ≡ true) where
   lo : ℤ
-  lo = lowOf F p (allSums F p C)
+  lo = lowOf isCharged F p (allSums F p C)
 
   hi : ℤ
-  hi = highOf F p (allSums F p C)
+  hi = highOf isCharged F p (allSums F p C)
 
   sizes-are : sizesSum F p (termCount F p) ≡ allSums F p C
   sizes-are = sym (all-tickets F p C (let r = range-of (limitsOf F) p C range in r .C-low))
@@ -46,17 +46,17 @@ module _ (F : Formula) (fits : F .last < 2 ^ 64) (above : Positive F) (rest : (p
   all-near : (D L : ℕ) → 0 < D → termCount F p ≤ L → MakesWhole F p L D → LiesFrom D lo hi (exactSum F p D L)
   unfolding lo hi
   all-near D L d h whole =
-      subst (λ (t : ℕ). LiesFrom D (lowOf F p t) (highOf F p t) (exactSum F p D L)) sizes-are
-      (any-rows F p (termCount F p) above (rest p) .near D L d h whole)
+      subst (λ (t : ℕ). LiesFrom D (lowOf isCharged F p t) (highOf isCharged F p t) (exactSum F p D L)) sizes-are
+      (any-rows isCharged F p (termCount F p) above (rest p) .near D L d h whole)
 
   -- a quotient that low and high share has the lowest digits of every exact sum
   digits : (d : ℕ) → Settles lo hi d → (D L : ℕ) → 0 < D → termCount F p ≤ L → MakesWhole F p L D
       → lowDigits d (quotient lo (unitAt d)) ≡ lowDigits d (quotient (exactSum F p D L) (D * unitAt d))
   unfolding lo hi
   digits d s D L dp h whole =
-      subst (λ (t : ℕ). Settles (lowOf F p t) (highOf F p t) d
-      → lowDigits d (quotient (lowOf F p t) (unitAt d)) ≡ lowDigits d (quotient (exactSum F p D L) (D * unitAt d))) sizes-are
-      (λ s. sym (any-rows F p (termCount F p) above (rest p) .digits d s D L dp h whole)) s
+      subst (λ (t : ℕ). Settles (lowOf isCharged F p t) (highOf isCharged F p t) d
+      → lowDigits d (quotient (lowOf isCharged F p t) (unitAt d)) ≡ lowDigits d (quotient (exactSum F p D L) (D * unitAt d))) sizes-are
+      (λ s. sym (any-rows isCharged F p (termCount F p) above (rest p) .digits d s D L dp h whole)) s
 
   -- what a closing of a filled ledger answers and writes, by the number of digits settled
   module _ (s : Plain) (good : Good (limitsOf F) s) (run-p : s .p ≡ p) (total-is : totalOf (limitsOf F) (s .sums) ≡ allSums F p C)
@@ -64,11 +64,11 @@ module _ (F : Formula) (fits : F .last < 2 ^ 64) (above : Positive F) (rest : (p
     bytes : List ℕ
     bytes = encode (limitsOf F) s
 
-    settled-is : settledAt F (s .p) (totalOf (limitsOf F) (s .sums)) ≡ settled lo hi
+    settled-is : settledAt isCharged F (s .p) (totalOf (limitsOf F) (s .sums)) ≡ settled lo hi
     unfolding settledAt lo hi
     settled-is = rw (run-p, total-is) refl
 
-    refusal-is : closeRefusal F (plainView s) (totalOf (limitsOf F) (s .sums)) out ≡ cond (eqb (settled lo hi) 0) 9 0
+    refusal-is : closeRefusal isCharged F (plainView s) (totalOf (limitsOf F) (s .sums)) out ≡ cond (eqb (settled lo hi) 0) 9 0
     unfolding closeRefusal refusal plainView
     refusal-is = rw (room, all-true (rowCount F) _ (λ row h. all-true (s .C) _ (λ block l. full row block h l)), settled-is) refl
 
@@ -130,11 +130,11 @@ module _ (F : Formula) (fits : F .last < 2 ^ 64) (above : Positive F) (rest : (p
         rows = filled-rows F p C fits range posts;
         total = filled-total F p C fits range posts;
         near = λ f. subst (λ (t : ℕ). (D L : ℕ) → 0 < D → termCount F p ≤ L → MakesWhole F p L D
-            → LiesFrom D (lowOf F p t) (highOf F p t) (exactSum F p D L))
+            → LiesFrom D (lowOf isCharged F p t) (highOf isCharged F p t) (exactSum F p D L))
             (sym (filled-total F p C fits range posts f)) all-near;
         closing = λ f out room.
             let k = kept-posts F p C (opened p C) posts (kept-opened F p C fits range) (f .right) in
-            subst (λ (t : ℕ). Closed F p (lowOf F p t) (highOf F p t) (postsBytes lim (fresh lim p C) posts) out)
+            subst (λ (t : ℕ). Closed F p (lowOf isCharged F p t) (highOf isCharged F p t) (postsBytes lim (fresh lim p C) posts) out)
             (sym (filled-total F p C fits range posts f))
             (subst (λ (l : List ℕ). Closed F p lo hi l out) (sym final)
             (closed s g (k .run-p) (filled-total F p C fits range posts f)
@@ -143,5 +143,5 @@ module _ (F : Formula) (fits : F .last < 2 ^ 64) (above : Positive F) (rest : (p
       }
 
 -- Demand 3
-pub demand3 : (F : Formula) → F .last < 2 ^ 64 → Positive F → ((p : ℕ) → RestBelowUnit F p (termCount F p)) → Demand3 F
+pub demand3 : (F : Formula) → F .last < 2 ^ 64 → Positive F → ((p : ℕ) → RestBelowUnit isCharged F p (termCount F p)) → Demand3 F
 demand3 F fits above rest p C range posts = settlement F fits above rest p C range posts

@@ -6,6 +6,7 @@ use mathlib.Core.List.{List, [], _∷_}
 use Prim.Native.Nat.{ℕ, _*_, _/_, _<_}
 use lib.ListN.{length}
 use Rattle.series.specs.Series.{Formula, rowCount}
+use Rattle.interval.specs.Interval.{isCharged}
 use Rattle.run.specs.Refusal.{Test, ascend, Applies, Smallest}
 use Rattle.run.specs.Run.{limitsOf}
 use Rattle.ticket.specs.Work.{workTests, workRefusal}
@@ -38,8 +39,8 @@ tables F a =
     ∷ table (writeTests F (a .p) (a .C) (a .list) (a .sheet)) (writeRefusal F (a .p) (a .C) (a .list) (a .sheet))
     ∷ table (readTests (limitsOf F) (a .sheet) (a .list) (a .sums)) (readRefusal (limitsOf F) (a .sheet) (a .list) (a .sums))
     ∷ table (sheetTests (limitsOf F) (viewOf (limitsOf F) (a .ledger)) (a .sheet)) (sheetRefusal (limitsOf F) (viewOf (limitsOf F) (a .ledger)) (a .sheet))
-    ∷ table (closeTests F (viewOf (limitsOf F) (a .ledger)) (totalIn (limitsOf F) (a .ledger)) (a .digits))
-    (closeRefusal F (viewOf (limitsOf F) (a .ledger)) (totalIn (limitsOf F) (a .ledger)) (a .digits)) ∷ []
+    ∷ table (closeTests isCharged F (viewOf (limitsOf F) (a .ledger)) (totalIn (limitsOf F) (a .ledger)) (a .digits))
+    (closeRefusal isCharged F (viewOf (limitsOf F) (a .ledger)) (totalIn (limitsOf F) (a .ledger)) (a .digits)) ∷ []
 
 -- the numbers of every table ascend
 unfoldable pub allAscend : List Table → Bool

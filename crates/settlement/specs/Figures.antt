@@ -1,5 +1,5 @@
--- The marked figures of document 01 that are theorems about the definitions, in one statement over the list of them; and the like of check
--- runs (document 02, slip 4), which no document gives.
+-- The marked figures of document 01 that are theorems about the definitions, in one statement over the list of them, with a, b and the closings
+-- as document 02, slip 5, has them; and the like of check runs, which no document gives.
 use mathlib.Core.Bool.{Bool, true, false, cond}
 use mathlib.Core.Path.{_≡_}
 use mathlib.Core.List.{List, [], _∷_, _++_}
@@ -7,9 +7,10 @@ use Prim.Native.Nat.{ℕ, _-_, _+_, _^_, _<_}
 use lib.Dec.{eqb}
 use lib.IntN.{ℤ, pos, negℤ}
 use lib.ListN.{getD, take, replicate}
-use Rattle.series.specs.Series.{Formula, rowAt, size, isAdded, termCount, modulus}
+use Rattle.series.specs.Series.{Formula, plus, minus, rowAt, size, isAdded, termCount, modulus}
 use Rattle.series.specs.Bellard.{bellard}
 use Rattle.series.specs.Check.{check}
+use Rattle.interval.specs.Interval.{isCharged, charges}
 use Rattle.run.specs.Run.{limitsOf}
 use Rattle.ledger.specs.Ledger.{totalOf}
 use Rattle.ledger.specs.Plain.{fullLedger}
@@ -24,6 +25,8 @@ pub data Figure : Type 0 where
   signedSizeOf : ℕ → ℕ → ℕ → Bool → ℕ → Figure
   -- K at position p
   countAt : ℕ → ℕ → Figure
+  -- a and b at position p
+  chargesAt : ℕ → ℕ → ℕ → Figure
   -- what closing answers, and what 32 zero bytes become: p = 1, C = 1, all marked, with sums of the rows, any at all, that have this total
   closingOf : ℕ → ℤ → List ℕ → Figure
 
@@ -31,6 +34,7 @@ unfoldable pub Holds : Formula → Figure → Type 0
 Holds F (sizeOf p row k q) = size F p (rowAt F row) k ≡ q
 Holds F (signedSizeOf p row k added q) = (size F p (rowAt F row) k ≡ q) × (isAdded F (rowAt F row) k ≡ added)
 Holds F (countAt p K) = termCount F p ≡ K
+Holds F (chargesAt p a b) = (charges isCharged F plus p (termCount F p) ≡ a) × (charges isCharged F minus p (termCount F p) ≡ b)
 Holds F (closingOf total a digits) =
     (sums : ℕ → ℕ) → ((row : ℕ) → sums row < modulus) → totalOf (limitsOf F) sums ≡ total
     → (closeAnswer F (fullLedger (limitsOf F) sums) (replicate 32 0) ≡ a)
@@ -46,17 +50,19 @@ figures =
     ∷ sizeOf 1 4 0 0x3333333333333333333333333333333 ∷ sizeOf 3 4 0 0x33333333333333333333333333333333
     ∷ signedSizeOf 1 2 11 false 9446 ∷ signedSizeOf 1 2 12 true 8 ∷ sizeOf 1 2 13 0
     ∷ countAt 3 14 ∷ countAt 4 15 ∷ countAt (2 ^ 60) 461168601842738804
-    ∷ closingOf 49 (negℤ (pos 9)) (replicate 32 0) ∷ closingOf 50 (pos 30) (replicate 30 48 ++ 0 ∷ 0 ∷ [])
-    ∷ closingOf (2 ^ 128 - 51) (pos 30) (replicate 30 70 ++ 0 ∷ 0 ∷ []) ∷ closingOf (2 ^ 128 - 50) (negℤ (pos 9)) (replicate 32 0) ∷ []
+    ∷ chargesAt 1 44 48
+    ∷ closingOf 48 (negℤ (pos 9)) (replicate 32 0) ∷ closingOf 49 (pos 30) (replicate 30 48 ++ 0 ∷ 0 ∷ [])
+    ∷ closingOf (2 ^ 128 - 46) (pos 30) (replicate 30 70 ++ 0 ∷ 0 ∷ []) ∷ closingOf (2 ^ 128 - 45) (negℤ (pos 9)) (replicate 32 0) ∷ []
 
 -- Check runs: the first terms of the four rows at position 1, a term with odd k that keeps its row's sign, the last terms whose size is not 0,
--- K at the first and the last position, and closings by a = 33 and b = 99.
+-- K at the first and the last position, a and b at the first, and the closings at their edges.
 abbrev pub checkFigures : List Figure
 checkFigures =
     signedSizeOf 1 0 0 true 0 ∷ signedSizeOf 1 1 0 false (2 ^ 127) ∷ signedSizeOf 1 2 0 false 0x33333333333333333333333333333333
     ∷ signedSizeOf 1 3 0 false 0x2aaaaaaaaaaaaaaaaaaaaaaaaaaaaaaa ∷ signedSizeOf 1 0 1 true 0x71c71c71c71c71c71c71c71c71c71c7 ∷ signedSizeOf 1 1 1 false 0x2aaaaaaaaaaaaaaaaaaaaaaaaaaaaaa
     ∷ sizeOf 1 1 30 2 ∷ sizeOf 1 1 31 0 ∷ countAt 1 33 ∷ countAt (2 ^ 59) 576460752303423520
-    ∷ closingOf 99 (negℤ (pos 9)) (replicate 32 0) ∷ closingOf 100 (pos 30) (replicate 30 48 ++ 0 ∷ 0 ∷ [])
+    ∷ chargesAt 1 33 97
+    ∷ closingOf 97 (negℤ (pos 9)) (replicate 32 0) ∷ closingOf 98 (pos 30) (replicate 30 48 ++ 0 ∷ 0 ∷ [])
     ∷ closingOf (2 ^ 128 - 35) (pos 30) (replicate 30 70 ++ 0 ∷ 0 ∷ []) ∷ closingOf (2 ^ 128 - 34) (negℤ (pos 9)) (replicate 32 0) ∷ []
 
 -- 243F6A8885A308D313198A2E037073, the first thirty hexadecimal digits of pi after the point

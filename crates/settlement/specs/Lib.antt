@@ -1,6 +1,7 @@
 pub mod Refused
 pub mod Settlement
 pub mod OneTotal
+pub mod EveryTerm
 pub mod Figures
 pub mod Agreement
 pub mod Halves

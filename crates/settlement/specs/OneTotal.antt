@@ -7,6 +7,7 @@ use Prim.Native.Nat.{ℕ, _+_, _%_}
 use lib.Dec.{eqb}
 use lib.IntN.{ℤ}
 use Rattle.series.specs.Series.{Formula, modulus}
+use Rattle.interval.specs.Interval.{isCharged}
 use Rattle.run.specs.Refusal.{answer}
 use Rattle.run.specs.Run.{Limits, limitsOf, inRange}
 use Rattle.ledger.specs.Ledger.{View, fresh, posIn, blocksIn, totalIn, markIn}
@@ -50,10 +51,10 @@ oneAnswers lim s (a ∷ posts) = answer (postRefusal lim (oneView s) a) 0 ∷ on
 
 -- closing it
 abbrev pub oneCloseAnswer : Formula → OneTotal → List ℕ → ℤ
-oneCloseAnswer F s digits = closingAnswer F (oneView s) (s .total) digits
+oneCloseAnswer F s digits = closingAnswer isCharged F (oneView s) (s .total) digits
 
 abbrev pub oneCloseBytes : Formula → OneTotal → List ℕ → List ℕ
-oneCloseBytes F s digits = closingBytes F (oneView s) (s .total) digits
+oneCloseBytes F s digits = closingBytes isCharged F (oneView s) (s .total) digits
 
 -- ---- as before
 

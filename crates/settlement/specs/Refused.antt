@@ -5,6 +5,7 @@ use mathlib.Core.List.{List, [], _∷_}
 use Prim.Native.Nat.{ℕ, _≤_}
 use lib.IntN.{ℤ, pos, negℤ}
 use Rattle.series.specs.Series.{Formula}
+use Rattle.interval.specs.Interval.{isCharged}
 use Rattle.run.specs.Run.{limitsOf}
 use Rattle.ticket.specs.Work.{workRefusal, workAnswer, workBytes}
 use Rattle.ticket.specs.declared.Part.{Part}
@@ -63,7 +64,7 @@ calls F a =
     ∷ call (readRefusal lim (a .sheet) (a .list) (a .sums)) (readAnswer lim (a .sheet) (a .list) (a .sums))
     (slice (a .list) (readList lim (a .sheet) (a .list) (a .sums)) ∷ slice (a .sums) (readSums lim (a .sheet) (a .list) (a .sums)) ∷ [])
     ∷ call (sheetRefusal lim seen (a .sheet)) (sheetAnswer lim (a .ledger) (a .sheet)) (slice (a .ledger) (sheetBytes lim (a .ledger) (a .sheet)) ∷ [])
-    ∷ call (closeRefusal F seen (totalIn lim (a .ledger)) (a .digits)) (closeAnswer F (a .ledger) (a .digits))
+    ∷ call (closeRefusal isCharged F seen (totalIn lim (a .ledger)) (a .digits)) (closeAnswer F (a .ledger) (a .digits))
     (slice (a .digits) (closeBytes F (a .ledger) (a .digits)) ∷ []) ∷ []
 
 unfoldable pub AllKept : List Slice → Type 0

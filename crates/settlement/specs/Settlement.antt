@@ -10,7 +10,7 @@ use Rattle.algebra.specs.Sum.{sum}
 use Rattle.algebra.specs.Whole.{quotient}
 use Rattle.series.specs.Series.{Formula, rowCount, termCount, modulus}
 use Rattle.interval.specs.Exact.{MakesWhole, exactSum}
-use Rattle.interval.specs.Interval.{LiesFrom, unitAt, Greatest, NoneSettled, OneOutcome}
+use Rattle.interval.specs.Interval.{isCharged, LiesFrom, unitAt, Greatest, NoneSettled, OneOutcome}
 use Rattle.interval.specs.Digits.{lowDigits}
 use Rattle.run.specs.Run.{limitsOf, inRange, isTicket, ticketSum}
 use Rattle.ledger.specs.Ledger.{fresh, ledgerSize, totalOf}
@@ -67,10 +67,10 @@ pub record Settled (F : Formula) (p C : ℕ) (posts : List Post) : Type 0 where
   pub total : Filled F p C posts → finalTotal F p C posts ≡ allSums F p C
   -- every exact partial sum from K on lies from total - (b + 1) to total + (a + 1) modulo 2 ^ 128
   pub near : Filled F p C posts → (D L : ℕ) → 0 < D → termCount F p ≤ L → MakesWhole F p L D
-      → LiesFrom D (lowOf F p (finalTotal F p C posts)) (highOf F p (finalTotal F p C posts)) (exactSum F p D L)
+      → LiesFrom D (lowOf isCharged F p (finalTotal F p C posts)) (highOf isCharged F p (finalTotal F p C posts)) (exactSum F p D L)
   -- and the closing of the ledger that the list left gives its digits
   pub closing : Filled F p C posts → (out : List ℕ) → length out ≡ 32
-      → Closed F p (lowOf F p (finalTotal F p C posts)) (highOf F p (finalTotal F p C posts))
+      → Closed F p (lowOf isCharged F p (finalTotal F p C posts)) (highOf isCharged F p (finalTotal F p C posts))
       (postsBytes (limitsOf F) (fresh (limitsOf F) p C) posts) out
 
 -- Demand 3, for a formula: every run, every list of posts

@@ -1,5 +1,5 @@
 -- The engine is none of the wrong engines. Closings part from it at p = 1, which settles thirty digits, or at p = 5, which settles
--- twenty-nine; tickets, halves and posts at p = 1 with one block, in rows 0 and 1.
+-- twenty-nine, or on a full ledger whose total lies at the edge of a digit; tickets, halves and posts at p = 1 with one block, in rows 0 and 1.
 -- Assumes nothing.
 use mathlib.Core.Path.{_≡_, refl, sym, ap, ap₂, _∙_}
 use mathlib.Core.Bool.{Bool, true, false, not, cond}
@@ -7,9 +7,10 @@ use mathlib.Core.List.{List, [], _∷_, _++_}
 use Prim.Native.Nat.{ℕ, _+_, _*_, _-_, _/_, _%_, _^_, _<_}
 use native.Mathlib.Omega.{arith}
 use borrow.Author.Tests.{eq-eqb, not-true}
-use lib.Dec.{eqb}
+use lib.Dec.{eqb, lit<}
 use lib.IntN.{ℤ, pos, negsuc, pos-ne-negsuc}
 use lib.ListN.{getD, drop, replicate}
+use lib.Pow.{pow-pos}
 use Rattle.algebra.specs.Sum.{sum}
 use Rattle.algebra.specs.Test.{allBelow}
 use Rattle.algebra.proofs.Booleans.{not-both}
@@ -19,7 +20,8 @@ use Rattle.algebra.specs.Whole.{residue, sameℤ}
 use Rattle.words.specs.Bytes.{bytesOf, valueOf, field}
 use Rattle.series.specs.Series.{modulus, size, isAdded, termCount, onSide, rowSum, overRows, sideSum, sizesSum, rangeSum}
 use Rattle.series.specs.Bellard.{bellard}
-use Rattle.interval.specs.Interval.{isCharged, charges, low, high}
+use Rattle.series.specs.declared.Series.the-variants.{Bellard}
+use Rattle.interval.specs.Interval.{Rule, isCharged, everyTerm, charges, low, high}
 use Rattle.interval.specs.Digits.{settledUpTo, settled, hexDigit, hexText, lowDigits}
 use Rattle.run.specs.Refusal.{_⇐_, refusal, answer}
 use Rattle.run.proofs.Answering as answering
@@ -27,20 +29,23 @@ use Rattle.run.specs.Run.{inRange, isTicket, bound, ticketSum}
 use Rattle.ticket.specs.Parts.{cut, partSum}
 use Rattle.ticket.specs.Work.{workRefusal, workBytes}
 use Rattle.ticket.specs.declared.Part.the-variants.{Whole, Lower, Upper}
-use Rattle.ledger.specs.Ledger.{View, fresh, enter, mark, addTo, rowSumIn, totalOf, viewOf, posIn, blocksIn, totalIn, bitIn, markIn, inOrder}
-use Rattle.ledger.specs.Plain.{Plain, opened, encode}
+use Rattle.ledger.specs.Ledger.{fresh, enter, mark, addTo, rowSumIn, totalOf, viewOf, posIn, blocksIn, totalIn, bitIn, markIn, inOrder}
+use Rattle.ledger.specs.Plain.{Plain, opened, plainView, encode, fullPlain}
 use Rattle.ledger.proofs.Image.{Good, pos-encode, sum-encode}
 use Rattle.ledger.specs.Calls.{ticketRefusal, ticketBytes}
 use Rattle.sheet.specs.Posts.{Post, ticket, postBytes, postsBytes, postRefusal, postEntries, plainPosts}
 use Rattle.sheet.proofs.Simulation.{good-opened, posts-good}
 use Rattle.closing.specs.Closing.{settledAt, digitsAt, closeRefusal, closingAnswer, closingBytes, closeAnswer, closeBytes}
+use Rattle.closing.proofs.Closing.{nine-alone}
+use Rattle.closing.proofs.Encoded.{good-full, answer-by}
 use Rattle.settlement.specs.Settlement.{Filled, ClosesWith, rowSums, allSums}
-use Rattle.settlement.specs.Figures.{firstDigits}
+use Rattle.settlement.specs.Figures.{firstDigits, inRow}
 use Rattle.settlement.proofs.Runs.{runs}
 use Rattle.settlement.proofs.Filling.{kept-posts, kept-opened}
+use Rattle.settlement.proofs.Figures.{spreads}
 use Rattle.settlement.proofs.Filler.{filled-exists}
 use Rattle.settlement.proofs.FirstDigits.{closes-with, first-digits}
-use Rattle.wrong_engines.specs.WrongEngines.{lim, AnswersAs, LeavesAs, sameDigits, WorksAs, oneSum, cutInBoth, cutInNeither, ownSigns, PostsAs, doesNothing, leftBy, fillEntry, fillsFirst, alwaysNine, nineUnseen, alwaysEight, madeUp, oneLess, byTotal, withoutRow, withoutCarry, wrongSize, wordBound, towardZero, settledTowardZero, Met, ShutOut}
+use Rattle.wrong_engines.specs.WrongEngines.{lim, AnswersAs, LeavesAs, ClosesAs, byRule, aboveZero, everyAdded, everySubtracted, sameDigits, WorksAs, oneSum, cutInBoth, cutInNeither, ownSigns, PostsAs, doesNothing, leftBy, fillEntry, fillsFirst, alwaysNine, nineUnseen, alwaysEight, madeUp, oneLess, byTotal, withoutRow, withoutCarry, wrongSize, wordBound, towardZero, settledTowardZero, Met, ShutOut}
 
 -- 6A8885A308D313198A2E03707344A, the digits from position 5 on that a run settles
 abbrev fifthDigits : List ℕ
@@ -48,11 +53,11 @@ fifthDigits =
     54 ∷ 65 ∷ 56 ∷ 56 ∷ 56 ∷ 53 ∷ 65 ∷ 51 ∷ 48 ∷ 56 ∷ 68 ∷ 51 ∷ 49 ∷ 51 ∷ 49 ∷ 57 ∷ 56 ∷ 65 ∷ 50 ∷ 69 ∷ 48 ∷ 51 ∷ 55 ∷ 48 ∷ 55 ∷ 51 ∷ 52 ∷ 52 ∷ 65
     ∷ []
 
-count-at-5 : settledAt bellard 5 (sizesSum bellard 5 (termCount bellard 5)) ≡ 29
+count-at-5 : settledAt isCharged bellard 5 (sizesSum bellard 5 (termCount bellard 5)) ≡ 29
 unfolding settledAt sizesSum size termCount settled settledUpTo low high sameℤ charges sideSum overRows rowSum sum onSide isAdded isCharged residue
 count-at-5 = refl
 
-digits-at-5 : digitsAt bellard 5 (sizesSum bellard 5 (termCount bellard 5)) 29 ≡ fifthDigits
+digits-at-5 : digitsAt isCharged bellard 5 (sizesSum bellard 5 (termCount bellard 5)) 29 ≡ fifthDigits
 unfolding digitsAt sizesSum size termCount low charges sideSum overRows rowSum sum onSide isAdded isCharged residue lowDigits hexText hexDigit
 digits-at-5 = refl
 
@@ -119,11 +124,11 @@ always-eight same = go (wrongSize (ledger 1) zeros) (not (inOrder lim (ledger 1)
 
 -- the ledger is not refused, and so the answer is whatever number is handed out in place of d
 module _ (p d : ℕ) (e : closeAnswer bellard (ledger p) zeros ≡ pos d) where
-  not-refused : (closeRefusal bellard (viewOf lim (ledger p)) (totalIn lim (ledger p)) zeros ≡ 0) × (settledAt bellard (posIn (ledger p)) (totalIn lim (ledger p)) ≡ d)
+  not-refused : (closeRefusal isCharged bellard (viewOf lim (ledger p)) (totalIn lim (ledger p)) zeros ≡ 0) × (settledAt isCharged bellard (posIn (ledger p)) (totalIn lim (ledger p)) ≡ d)
   unfolding closeAnswer closingAnswer viewOf
   not-refused = answering.not-refused _ _ d e
 
-  handed-out : (n : ℕ) → answer (closeRefusal bellard (viewOf lim (ledger p)) (totalIn lim (ledger p)) zeros) n ≡ pos n
+  handed-out : (n : ℕ) → answer (closeRefusal isCharged bellard (viewOf lim (ledger p)) (totalIn lim (ledger p)) zeros) n ≡ pos n
   unfolding answer
   handed-out n = rw (not-refused .0) refl
 
@@ -138,7 +143,7 @@ made-up d same =
 one-less : AnswersAs oneLess → ⊥
 unfolding oneLess
 one-less same =
-    let n = settledAt bellard (posIn (ledger 1)) (totalIn lim (ledger 1)) in
+    let n = settledAt isCharged bellard (posIn (ledger 1)) (totalIn lim (ledger 1)) in
     let a : pos (n - 1) ≡ pos 30 = sym (handed-out 1 30 (at-1 .0) (n - 1)) ∙ thirty oneLess same in
     let b = not-refused 1 30 (at-1 .0) .1 in
     let z : n - 1 ≡ 30 = cc in
@@ -177,30 +182,16 @@ position-1 =
     ap posIn bytes-1 ∙ pos-encode lim filled-1 good-1
     ∙ kept-posts bellard 1 1 (opened 1 1) (posts 1) (kept-opened bellard 1 1 (omega arith) refl) (filled 1 .right) .run-p
 
--- where a ledger is not refused, another total could bring 9 alone
-last-test : (c : Bool) → refusal ((9 ⇐ c) ∷ []) ≡ cond c 9 0
-unfolding refusal
-last-test c = refl
-
-by-total : (v : View) (a b : ℕ) (digits : List ℕ) → closeRefusal bellard v a digits ≡ 0
-    → closeRefusal bellard v b digits ≡ cond (eqb (settledAt bellard (v .p) b) 0) 9 0
-unfolding closeRefusal
-by-total v a b digits e =
-    let e₁ = answering.passes 0 _ _ e in
-    let e₅ = answering.passes 4 _ _ (e₁ .1) in
-    let e₈ = answering.passes 7 _ _ (e₅ .1) in
-    answering.skipped 1 _ _ (e₁ .0) ∙ answering.skipped 5 _ _ (e₅ .0) ∙ answering.skipped 8 _ _ (e₈ .0) ∙ last-test _
-
 -- what a closing of the run by the total t would leave
 abbrev left : ℕ → List ℕ
 left t =
-    cond (eqb (cond (eqb (settledAt bellard 1 t) 0) 9 0) 0) (digitsAt bellard 1 t (settledAt bellard 1 t) ++ drop (settledAt bellard 1 t) zeros) zeros
+    cond (eqb (cond (eqb (settledAt isCharged bellard 1 t) 0) 9 0) 0) (digitsAt isCharged bellard 1 t (settledAt isCharged bellard 1 t) ++ drop (settledAt isCharged bellard 1 t) zeros) zeros
 
 module _ (T : (ℕ → ℕ) → ℕ) (t : ℕ) (is : T (rowSumIn (ledger 1)) ≡ t) (same : LeavesAs (byTotal T)) where
   first-left : firstDigits ++ drop 30 zeros ≡ left t
   unfolding ledger zeros inRange byTotal closingBytes viewOf
   first-left =
-      let r = by-total (viewOf lim (ledger 1)) _ t zeros (not-refused 1 30 (at-1 .0) .0) in
+      let r = nine-alone isCharged isCharged bellard (viewOf lim (ledger 1)) _ t zeros (not-refused 1 30 (at-1 .0) .0) in
       sym (at-1 .1) ∙ same 1 1 refl (posts 1) (filled 1) zeros refl ∙ rw (is, r, position-1) refl
 
 -- sums that agree with the run's below 7 have its totals
@@ -235,6 +226,39 @@ row-left-out row h same =
     not-both (allBelow 3 (agrees row))
     (all-true 3 (agrees row) (λ i l. eq-eqb _ _ (ap (λ (d : List ℕ). getD d i 0) (first-left (withoutRow row) _ (without-row row) same))))
     (not-true _ (all-at 7 (λ row. not (allBelow 3 (agrees row))) parts row h))
+
+-- ---- rules of charging: full ledgers of p = 1 and C = 1, with the total in row 0
+
+module _ (R : Rule) (t : ℕ) (fits : t < modulus) (same : ClosesAs (byRule R)) where
+  abbrev full : Plain
+  full = fullPlain lim (inRow 0 t)
+
+  row-fits : (row : ℕ) → inRow 0 t row < modulus
+  unfolding inRow
+  row-fits row = either (eqb 0 row)
+    where
+      either : (b : Bool) → cond b t 0 < modulus
+      either true = fits
+      either false = pow-pos 128
+
+  by-rule : closingAnswer isCharged bellard (plainView full) t zeros ≡ closingAnswer R bellard (plainView full) t zeros
+  unfolding closeAnswer
+  by-rule =
+      let good = good-full Bellard (inRow 0 t) row-fits in
+      let total = spreads .one-row 0 t (omega arith) fits in
+      sym (answer-by bellard full good zeros isCharged ∙ ap (λ (n : ℕ). closingAnswer isCharged bellard (plainView full) n zeros) total)
+      ∙ same (encode lim full) zeros ∙ answer-by bellard full good zeros R ∙ ap (λ (n : ℕ). closingAnswer R bellard (plainView full) n zeros) total
+
+-- Total 48 would settle thirty digits where a term with E of 0 is not charged. Total 49 would be refused where every term is, or every
+-- subtracted one, and total 2 ^ 128 - 46 where every added one is.
+wrong-rules : (ClosesAs (byRule aboveZero) → ⊥) × (ClosesAs (byRule everyTerm) → ⊥) × (ClosesAs (byRule everySubtracted) → ⊥) × (ClosesAs (byRule everyAdded) → ⊥)
+unfolding zeros plainView closingAnswer closeRefusal refusal answer settledAt settled settledUpTo low high sameℤ allBelow isTicket termCount charges sideSum overRows rowSum sum onSide isAdded isCharged aboveZero everyTerm everySubtracted everyAdded
+wrong-rules = (
+  λ same. no-digits 8 30 (by-rule aboveZero 48 (lit< tt) same),
+  λ same. no-digits 8 30 (sym (by-rule everyTerm 49 (lit< tt) same)),
+  λ same. no-digits 8 30 (sym (by-rule everySubtracted 49 (lit< tt) same)),
+  λ same. no-digits 8 30 (sym (by-rule everyAdded (2 ^ 128 - 46) (lit< tt) same)),
+)
 
 -- ---- tickets: row 0 and row 1 at p = 1 have sums with other top bytes
 
@@ -304,6 +328,10 @@ shut-out = record {
   one-set-of-digits = one-set-of-digits;
   row-left-out = row-left-out;
   no-carry = no-carry;
+  zero-uncharged = wrong-rules .0;
+  every-term = wrong-rules .1;
+  every-subtracted = wrong-rules .2;
+  every-added = wrong-rules .3;
   one-sum = one-sum;
   cut-in-both = cut-in-both;
   cut-in-neither = cut-in-neither;
@@ -321,9 +349,11 @@ posts-left s [] = refl
 posts-left s (a ∷ posts) = posts-left (postBytes lim s a) posts
 
 pub met : Met
+unfolding closeAnswer
 met = record {
   answers = λ p C range posts f out room. refl;
   leaves = λ p C range posts f out room. refl;
+  closes = λ s digits. refl;
   works = λ part p C row block out l r t. refl;
   posts = λ p C range posts. posts-left (fresh lim p C) posts;
 }

@@ -1,20 +1,20 @@
 -- The wrong engines that document 01 names under "Traps of this arithmetic" and "For those who test", where no edit of the code can be
--- them, wrong totals of the row sums, and wrong halves of a ticket: each is written down by what it answers or leaves, and `ShutOut` says that the engine is none of
--- them. Nothing of the engine rests on these definitions.
+-- them, wrong totals of the row sums, wrong halves of a ticket, and wrong rules of charging: each is written down by what it answers or leaves, and
+-- `ShutOut` says that the engine is none of them. Nothing of the engine rests on these definitions.
 use mathlib.Core.Path.{_≡_}
 use mathlib.Core.Bool.{Bool, true, not, cond, _||_}
 use mathlib.Core.List.{List, [], _∷_, _++_, foldl}
 use Prim.Native.Nat.{ℕ, zero, suc, _+_, _*_, _-_, _/_, _%_, _^_, _<_}
-use lib.Dec.{eqb}
+use lib.Dec.{eqb, ltb}
 use lib.IntN.{ℤ, pos, negsuc, negℤ, subℕ}
 use lib.ListN.{length, drop}
 use Rattle.algebra.specs.Sum.{sum}
 use Rattle.algebra.specs.Test.{allBelow}
 use Rattle.algebra.specs.Whole.{residue, sameℤ}
 use Rattle.words.specs.Bytes.{bytesOf}
-use Rattle.series.specs.Series.{plus, minus, modulus, rowCount, rowAt, termCount, size, rowSum, rangeSum}
+use Rattle.series.specs.Series.{plus, minus, modulus, rowCount, rowAt, rise, fall, isAdded, termCount, size, rowSum, rangeSum}
 use Rattle.series.specs.Bellard.{bellard}
-use Rattle.interval.specs.Interval.{unitAt}
+use Rattle.interval.specs.Interval.{Rule, isCharged, everyTerm, unitAt}
 use Rattle.run.specs.Refusal.{_⇐_, refusal, answer}
 use Rattle.run.specs.Run.{Limits, limitsOf, inRange, isTicket, bound}
 use Rattle.ticket.specs.Parts.{cut}
@@ -24,7 +24,7 @@ use Rattle.ticket.specs.declared.Part.the-variants.{Whole, Lower, Upper}
 use Rattle.ledger.specs.Ledger.{ledgerSize, viewOf, posIn, blocksIn, rowSumIn, totalOf, totalIn, bitIn, inOrder, fresh, enter}
 use Rattle.ledger.specs.Plain.{Entry}
 use Rattle.sheet.specs.Posts.{Post, postRefusal, postEntries, postBytes, postsBytes}
-use Rattle.closing.specs.Closing.{lowOf, highOf, settledAt, closeRefusal, closingBytes, closeAnswer, closeBytes}
+use Rattle.closing.specs.Closing.{lowOf, highOf, settledAt, closeRefusal, closingAnswer, closingBytes, closeAnswer, closeBytes}
 use Rattle.settlement.specs.Settlement.{Filled, allSums}
 
 abbrev pub lim : Limits
@@ -63,11 +63,11 @@ alwaysEight s digits =
 
 -- a made-up d: one number for all ledgers that settle a digit
 unfoldable pub madeUp : ℕ → List ℕ → List ℕ → ℤ
-madeUp d s digits = answer (closeRefusal bellard (viewOf lim s) (totalIn lim s) digits) d
+madeUp d s digits = answer (closeRefusal isCharged bellard (viewOf lim s) (totalIn lim s) digits) d
 
 -- a made-up d: one less than the greatest that the distance settles
 unfoldable pub oneLess : List ℕ → List ℕ → ℤ
-oneLess s digits = answer (closeRefusal bellard (viewOf lim s) (totalIn lim s) digits) (settledAt bellard (posIn s) (totalIn lim s) - 1)
+oneLess s digits = answer (closeRefusal isCharged bellard (viewOf lim s) (totalIn lim s) digits) (settledAt isCharged bellard (posIn s) (totalIn lim s) - 1)
 
 -- one set of digits for all positions
 abbrev pub sameDigits : List ℕ → List ℕ → List ℕ → List ℕ
@@ -75,7 +75,7 @@ sameDigits w s digits = w ++ drop (length w) digits
 
 -- a closing by another total than that of the row sums: T makes it of the sums (document 02, slip 1)
 unfoldable pub byTotal : ((ℕ → ℕ) → ℕ) → List ℕ → List ℕ → List ℕ
-byTotal T s digits = closingBytes bellard (viewOf lim s) (T (rowSumIn s)) digits
+byTotal T s digits = closingBytes isCharged bellard (viewOf lim s) (T (rowSumIn s)) digits
 
 -- a row is left out
 unfoldable pub withoutRow : ℕ → (ℕ → ℕ) → ℕ
@@ -84,6 +84,27 @@ withoutRow row sums = totalOf lim (λ r. cond (eqb row r) 0 (sums r))
 -- the two words are added up apart, with no carry from the lower to the upper
 unfoldable pub withoutCarry : (ℕ → ℕ) → ℕ
 withoutCarry sums = sum (λ r. sums r / 2 ^ 64) 0 7 % 2 ^ 64 * 2 ^ 64 + sum (λ r. sums r % 2 ^ 64) 0 7 % 2 ^ 64
+
+-- ---- rules of charging (document 02, slip 5)
+
+-- the engine's closing of every ledger, filled or not, answers as A does
+abbrev pub ClosesAs : (List ℕ → List ℕ → ℤ) → Type 0
+ClosesAs A = (s digits : List ℕ) → closeAnswer bellard s digits ≡ A s digits
+
+-- a closing by a rule
+abbrev pub byRule : Rule → List ℕ → List ℕ → ℤ
+byRule R s digits = closingAnswer R bellard (viewOf lim s) (totalIn lim s) digits
+
+-- a term with E of 0 is not charged: the bound would still hold
+unfoldable pub aboveZero : Rule
+aboveZero F p r k = ltb (fall F k) (rise p r)
+
+-- every added term is charged, or every subtracted one; on the other side those with E of 0 or more
+unfoldable pub everyAdded : Rule
+everyAdded F p r k = isAdded F r k || isCharged F p r k
+
+unfoldable pub everySubtracted : Rule
+everySubtracted F p r k = not (isAdded F r k) || isCharged F p r k
 
 -- ---- tickets
 
@@ -161,6 +182,7 @@ settledTowardZero lo hi (suc d) =
 pub record Met : Type 0 where
   pub answers : AnswersAs (closeAnswer bellard)
   pub leaves : LeavesAs (closeBytes bellard)
+  pub closes : ClosesAs (byRule isCharged)
   pub works : (part : Part) → WorksAs part (workBytes bellard part)
   pub posts : PostsAs (postBytes lim)
 
@@ -175,6 +197,10 @@ pub record ShutOut : Type 0 where
   pub one-set-of-digits : (w : List ℕ) → LeavesAs (sameDigits w) → ⊥
   pub row-left-out : (row : ℕ) → row < 7 → LeavesAs (byTotal (withoutRow row)) → ⊥
   pub no-carry : LeavesAs (byTotal withoutCarry) → ⊥
+  pub zero-uncharged : ClosesAs (byRule aboveZero) → ⊥
+  pub every-term : ClosesAs (byRule everyTerm) → ⊥
+  pub every-subtracted : ClosesAs (byRule everySubtracted) → ⊥
+  pub every-added : ClosesAs (byRule everyAdded) → ⊥
   pub one-sum : (w : List ℕ) → WorksAs Whole (oneSum w) → ⊥
   pub cut-in-both : WorksAs Lower cutInBoth → ⊥
   pub cut-in-neither : WorksAs Upper cutInNeither → ⊥
@@ -186,4 +212,4 @@ pub record ShutOut : Type 0 where
   pub product-in-a-word : let K = termCount bellard (2 ^ 60) in
       (wordBound K 256 40 - wordBound K 256 39 ≡ 0) × (bound K 256 40 - bound K 256 39 ≡ 0 → ⊥)
   -- at p = 1, total 0 would settle thirty digits; it settles none
-  pub rounded-toward-zero : (settledTowardZero (lowOf bellard 1 0) (highOf bellard 1 0) 32 ≡ 30) × (settledAt bellard 1 0 ≡ 0)
+  pub rounded-toward-zero : (settledTowardZero (lowOf isCharged bellard 1 0) (highOf isCharged bellard 1 0) 32 ≡ 30) × (settledAt isCharged bellard 1 0 ≡ 0)

@@ -2,13 +2,13 @@
 -- Assumes nothing.
 use mathlib.Core.Path.{_≡_, sym, ap, _∙_}
 use mathlib.Core.Bool.{Bool, true, cond}
-use Prim.Native.Nat.{ℕ, _+_, _*_, _-_, _^_, _≤_, _<_}
+use Prim.Native.Nat.{ℕ, _+_, _*_, _-_, _^_, _≤_}
 use native.Mathlib.Nat.{zero-add}
 use native.Mathlib.Omega.{arith}
 use borrow.Author.Needs.{needs}
 use Rattle.algebra.specs.Sum.{sum}
 use Rattle.algebra.proofs.Sums.{sum-none, sum-next}
-use Rattle.series.specs.Series.{Side, row, rowCount, rowAt, termCount, plus, minus}
+use Rattle.series.specs.Series.{row, rowCount, rowAt, termCount, plus, minus}
 use Rattle.series.specs.Names.{formulaOf}
 use Rattle.series.specs.declared.Series.{Series}
 use Rattle.series.proofs.FewRows.{few-rows}
