@@ -135,7 +135,7 @@ unfolding settledAt low high
 low-in R F p total n = go (ltb total (charges R F minus p (termCount F p) + 1)) refl
   where
     go : (b : Bool) → ltb total (charges R F minus p (termCount F p) + 1) ≡ b → charges R F minus p (termCount F p) + 1 ≤ total
-    go true e = absurd (n (sym (negative-none total (charges R F minus p (termCount F p) + 1) (total + charges R F plus p (termCount F p) + 1) (ltb-true _ _ e))))
+    go true e = absurd (n (sym (negative-none total (charges R F minus p (termCount F p) + 1) _ (ltb-true _ _ e))))
     go false e = ltb-false _ _ e
 
 pub low-is : (F : Formula) (M p total r : ℕ) → (settledAt isCharged F p total ≡ 0 → ⊥) → total < M → r < M

@@ -11,7 +11,8 @@ ghost use Rattle.interval.specs.Counts.{chargedIn, sideCount};
 
 // n terms where they are on the side that is counted, else none.
 pub fn on_side(same: bool, n: u64) -> u64
-    ensures { λ r. ⌜ r ≡ cond same n 0 ⌝ }
+    ensures counts { λ r. ⌜ r ≡ cond same n 0 ⌝ }
+    ensures small { λ r. ⌜ r ≤ n ⌝ }
 {
     if same { n } else { 0 }
 }
@@ -25,7 +26,7 @@ pub fn in_row(f: Series, added: bool, p: u64, row: u64) -> u64
 {
     let numbers = series::terms::numbers_of(f, p, row);
     let count = numbers.rise / numbers.step + 1;
-    on_side(numbers.even == added, count - count / 2) + on_side(numbers.odd == added, count / 2)
+    on_side(numbers.even == added, (count + 1) / 2) + on_side(numbers.odd == added, count / 2)
 }
 
 // Those of all rows: a, or b.

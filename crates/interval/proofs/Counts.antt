@@ -25,14 +25,14 @@ use Rattle.interval.proofs.Premises.{lead-small}
 
 -- one term more: an even one, or an odd one
 next-even : (b d : Bool) (c : ℕ) → c % 2 ≡ 0
-    → cond b (c - c / 2) 0 + cond d (c / 2) 0 + cond b 1 0 ≡ cond b (suc c - suc c / 2) 0 + cond d (suc c / 2) 0
+    → cond b ((c + 1) / 2) 0 + cond d (c / 2) 0 + cond b 1 0 ≡ cond b ((suc c + 1) / 2) 0 + cond d (suc c / 2) 0
 next-even true true c e = omega arith
 next-even true false c e = omega arith
 next-even false true c e = omega arith
 next-even false false c e = refl
 
 next-odd : (b d : Bool) (c : ℕ) → (c % 2 ≡ 0 → ⊥)
-    → cond b (c - c / 2) 0 + cond d (c / 2) 0 + cond d 1 0 ≡ cond b (suc c - suc c / 2) 0 + cond d (suc c / 2) 0
+    → cond b ((c + 1) / 2) 0 + cond d (c / 2) 0 + cond d 1 0 ≡ cond b ((suc c + 1) / 2) 0 + cond d (suc c / 2) 0
 next-odd true true c n = omega arith
 next-odd true false c n = omega arith
 next-odd false true c n = omega arith
@@ -56,8 +56,8 @@ module _ (F : Formula) (side : Side) (r : Row) where
   counted (suc c) = ap (λ (n : ℕ). n + cond (onSide F side r (0 + c)) 1 0) (counted c) ∙ go (eqb (c % 2) 0) refl
     where
       go : (b : Bool) → eqb (c % 2) 0 ≡ b
-          → cond (onSide F side r 0) (c - c / 2) 0 + cond (onSide F side r 1) (c / 2) 0 + cond (onSide F side r (0 + c)) 1 0
-          ≡ cond (onSide F side r 0) (suc c - suc c / 2) 0 + cond (onSide F side r 1) (suc c / 2) 0
+          → cond (onSide F side r 0) ((c + 1) / 2) 0 + cond (onSide F side r 1) (c / 2) 0 + cond (onSide F side r (0 + c)) 1 0
+          ≡ cond (onSide F side r 0) ((suc c + 1) / 2) 0 + cond (onSide F side r 1) (suc c / 2) 0
       go true t =
           let e = eqb-true (c % 2) 0 t in
           rw (same-side side (0 + c) 0 (omega arith)) (next-even (onSide F side r 0) (onSide F side r 1) c e)
@@ -93,27 +93,31 @@ closed f side p =
     over-ext _ _ (formulaOf f .rows) (λ r m. row-closed (formulaOf f) side p (termCount (formulaOf f) p) r (step-positive f)
     (before-K (formulaOf f) p r (step-positive f) (lead-small f r m)))
 
+-- the even terms and the odd ones are all of them
+evens : (c : ℕ) → (c + 1) / 2 ≡ c - c / 2
+evens c = omega arith
+
 pub counts-as-given : CountsAsGiven
 unfolding termCount closedCharges chargedIn sideCount overRows onSide isAdded
 counts-as-given = record {
   bellard-K = λ p. refl;
   check-K = λ p. refl;
   closed = closed;
-  check-a = λ p. closed Check plus p ∙ omega arith;
-  check-b = λ p. closed Check minus p ∙ omega arith;
+  check-a = λ p. closed Check plus p ∙ simp evens (omega arith);
+  check-b = λ p. closed Check minus p ∙ simp evens (omega arith);
 }
 
 even : (side : Side) (p K : ℕ) → K % 2 ≡ 0 → charges everyTerm bellard side p K ≡ 7 * K / 2
 unfolding sideCount overRows onSide isAdded
-even plus p K e = every-closed bellard plus p K ∙ omega arith
-even minus p K e = every-closed bellard minus p K ∙ omega arith
+even plus p K e = every-closed bellard plus p K ∙ simp evens (omega arith)
+even minus p K e = every-closed bellard minus p K ∙ simp evens (omega arith)
 
 pub every-term-counts : EveryTermCounts
 unfolding sideCount overRows onSide isAdded
 every-term-counts = record {
   bellard-even = λ p K e side. even side p K e;
-  bellard-odd-a = λ p K e. every-closed bellard plus p K ∙ omega arith;
-  bellard-odd-b = λ p K e. every-closed bellard minus p K ∙ omega arith;
-  check-a = λ p K. every-closed check plus p K ∙ omega arith;
-  check-b = λ p K. every-closed check minus p K ∙ omega arith;
+  bellard-odd-a = λ p K e. every-closed bellard plus p K ∙ simp evens (omega arith);
+  bellard-odd-b = λ p K e. every-closed bellard minus p K ∙ simp evens (omega arith);
+  check-a = λ p K. every-closed check plus p K ∙ simp evens (omega arith);
+  check-b = λ p K. every-closed check minus p K ∙ simp evens (omega arith);
 }

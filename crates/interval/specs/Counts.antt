@@ -16,9 +16,10 @@ use Rattle.interval.specs.Interval.{isCharged, everyTerm, charges}
 unfoldable pub chargedIn : Formula → ℕ → Row → ℕ
 chargedIn F p r = rise p r / F .step + 1
 
--- how many of a row's first c terms are on a side: the c - c / 2 even ones have the sign of term 0, the c / 2 odd ones that of term 1
+-- how many of a row's first c terms are on a side: the even ones, (c + 1) / 2 of them, have the sign of term 0, and the odd ones, c / 2 of
+-- them, that of term 1
 unfoldable pub sideCount : Formula → Side → Row → ℕ → ℕ
-sideCount F side r c = cond (onSide F side r 0) (c - c / 2) 0 + cond (onSide F side r 1) (c / 2) 0
+sideCount F side r c = cond (onSide F side r 0) ((c + 1) / 2) 0 + cond (onSide F side r 1) (c / 2) 0
 
 -- a or b of a run
 unfoldable pub closedCharges : Formula → Side → ℕ → ℕ

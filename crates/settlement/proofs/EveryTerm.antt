@@ -6,10 +6,10 @@ use mathlib.Core.List.{List, _++_}
 use Prim.Native.Nat.{ℕ, _+_, _-_, _*_, _/_, _^_, _≤_, _<_}
 use native.Mathlib.Nat.{le-refl}
 use native.Mathlib.Omega.{arith}
-use borrow.Author.Tests.{eqb-false, ne-eqb}
+use borrow.Author.Tests.{ne-eqb}
 use lib.Dec.{eqb}
 use lib.IntN.{ℤ, pos, subℕ}
-use lib.ListN.{length, take, drop}
+use lib.ListN.{take, drop}
 use lib.Pow.{shr-mono}
 use lib.Seq.{take-append-le}
 use lib.Signed.{_≤ℤ_}
@@ -20,7 +20,6 @@ use Rattle.series.proofs.Sides.{side-le}
 use Rattle.interval.specs.Interval.{Rule, isCharged, everyTerm, charges, low, high, unitAt, Settles}
 use Rattle.interval.specs.Digits.{settled, lowDigits}
 use Rattle.interval.proofs.Digits.{at-most, settled-greatest}
-use Rattle.run.specs.Refusal.{answer}
 use Rattle.run.specs.Run.{limitsOf}
 use Rattle.run.proofs.Answering.{not-refused, finished, changed}
 use Rattle.ledger.specs.Ledger.{View, viewOf, totalIn}

@@ -32,12 +32,6 @@ same-side F r k false = subtracted (isAdded F r k)
     subtracted true = refl
     subtracted false = refl
 
-at-most : (b d : Bool) (c : ℕ) → cond b (c - c / 2) 0 + cond d (c / 2) 0 ≤ c
-at-most true true c = omega arith
-at-most true false c = omega arith
-at-most false true c = omega arith
-at-most false false c = omega arith
-
 -- the numbers of the row, as the code has them
 module _ (f : Series) (p row : ℕ) (n : Numbers) (is : n ≡ numbersOf (formulaOf f) p (rowAt (formulaOf f) row)) where
   abbrev F : Formula
@@ -62,21 +56,14 @@ module _ (f : Series) (p row : ℕ) (n : Numbers) (is : n ≡ numbersOf (formula
       let s = count-small f p w in
       omega (arith, count-is, k, s)
 
-  within : Position F p → row < rowCount F → (added : Bool) (x y : ℕ) → x ≡ cond (Bool·beq (n .even) added) (count - count / 2) 0
-      → y ≡ cond (Bool·beq (n .odd) added) (count / 2) 0 → x + y ≤ 2 ^ 60
-  within w h added x y e o =
-      let l = at-most (Bool·beq (n .even) added) (Bool·beq (n .odd) added) count in
-      let k = few w h in
-      omega (arith, e, o, l, k)
-
   counted : (added : Bool)
-      → cond (Bool·beq (n .even) added) (count - count / 2) 0 + cond (Bool·beq (n .odd) added) (count / 2) 0 ≡ sideCount F (cond added plus minus) r (chargedIn F p r)
+      → cond (Bool·beq (n .even) added) ((count + 1) / 2) 0 + cond (Bool·beq (n .odd) added) (count / 2) 0 ≡ sideCount F (cond added plus minus) r (chargedIn F p r)
   unfolding sideCount
   counted added =
-      ap₂ (λ (b d : Bool). cond (Bool·beq b added) (count - count / 2) 0 + cond (Bool·beq d added) (count / 2) 0)
+      ap₂ (λ (b d : Bool). cond (Bool·beq b added) ((count + 1) / 2) 0 + cond (Bool·beq d added) (count / 2) 0)
       (ap (λ (x : Numbers). x .even) is) (ap (λ (x : Numbers). x .odd) is)
-      ∙ ap₂ (λ (b d : Bool). cond b (count - count / 2) 0 + cond d (count / 2) 0) (same-side F r 0 added) (same-side F r 1 added)
-      ∙ ap (λ (c : ℕ). cond (onSide F (cond added plus minus) r 0) (c - c / 2) 0 + cond (onSide F (cond added plus minus) r 1) (c / 2) 0) count-is
+      ∙ ap₂ (λ (b d : Bool). cond b ((count + 1) / 2) 0 + cond d (count / 2) 0) (same-side F r 0 added) (same-side F r 1 added)
+      ∙ ap (λ (c : ℕ). cond (onSide F (cond added plus minus) r 0) ((c + 1) / 2) 0 + cond (onSide F (cond added plus minus) r 1) (c / 2) 0) count-is
 
 numbers-of-requires : tie.Need-numbers-of-requires
 numbers-of-requires c κs = search needs
@@ -93,8 +80,12 @@ add-count c =
     let h = few (a .f) (a .p) (a .row) _ (c .before .numbers-of .ensures) (s .pre .0) (s .pre .1) in
     record { fits = omega (arith, h) }
 
-sub-on-side : tie.Need-sub-on-side
-sub-on-side c = search needs
+add-on-side : tie.Need-add-on-side
+add-on-side c =
+    let s = c .before .before .before in
+    let a = s .args in
+    let h = few (a .f) (a .p) (a .row) _ (c .before .before .numbers-of .ensures) (s .pre .0) (s .pre .1) in
+    record { fits = omega (arith, h) }
 
 on-side-requires : tie.Need-on-side-requires
 on-side-requires c κs = search needs
@@ -107,8 +98,8 @@ add-result c =
     let at = c .before .before .before .before .before in
     let s = at .before in
     let a = s .args in
-    let h = within (a .f) (a .p) (a .row) _ (at .numbers-of .ensures) (s .pre .0) (s .pre .1) (a .added) _ _ (c .before .before .on-side .ensures) (c .on-side2 .ensures) in
-    record { fits = omega (arith, h) }
+    let h = few (a .f) (a .p) (a .row) _ (at .numbers-of .ensures) (s .pre .0) (s .pre .1) in
+    record { fits = omega (arith, h, c .before .before .on-side .ensures .1, c .on-side2 .ensures .1) }
 
 returns : tie.Need-returns
 returns c =
@@ -117,10 +108,9 @@ returns c =
     let a = s .args in
     let even = c .before .before .on-side .ensures in
     let odd = c .on-side2 .ensures in
-    let is = at .numbers-of .ensures in (
-      ap₂ _+_ even odd ∙ counted (a .f) (a .p) (a .row) _ is (a .added),
-      within (a .f) (a .p) (a .row) _ is (s .pre .0) (s .pre .1) (a .added) _ _ even odd,
-    )
+    let is = at .numbers-of .ensures in
+    let h = few (a .f) (a .p) (a .row) _ is (s .pre .0) (s .pre .1) in
+    (ap₂ _+_ (even .0) (odd .0) ∙ counted (a .f) (a .p) (a .row) _ is (a .added), omega (arith, h, even .1, odd .1))
 
 pub in-row-spec : {M : Type 1} → statement M
 in-row-spec =
@@ -129,7 +119,7 @@ in-row-spec =
     numbers-of-requires
     div-count
     add-count
-    sub-on-side
+    add-on-side
     on-side-requires
     on-side-requires-2
     add-result
