@@ -503,6 +503,16 @@ size_t any_sheet(uint8_t *sheet, uint64_t p, uint64_t c, const uint8_t *list, si
     return SHEET_SIZE(e);
 }
 
+uint64_t count_charged(uint64_t p, int added)
+{
+    uint64_t terms = ref_term_count(FORMULA, p), charged = 0;
+    for (uint64_t row = 0; row < ROWS; row++)
+        for (uint64_t k = 0; k < terms; k++)
+            if (ref_term_exponent(FORMULA, p, row, k) >= 0 && ref_term_added(FORMULA, row, k) == added)
+                charged++;
+    return charged;
+}
+
 /* Cases. */
 
 static int64_t smaller(int first, int second)

@@ -116,6 +116,8 @@ void first_pairs(uint8_t *list, uint64_t blocks, size_t e);
 /* The sheet of a list with random sums. */
 size_t any_sheet(uint8_t *sheet, uint64_t p, uint64_t c, const uint8_t *list, size_t e);
 uint64_t any_chance(void);
+/* A run's charged terms, those with E of 0 or more, that are added, or that are subtracted, counted one by one. */
+uint64_t count_charged(uint64_t p, int added);
 
 /*
  * A call's cases. `prepare` makes a case that nothing refuses; `damage` damages

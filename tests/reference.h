@@ -1,6 +1,6 @@
 /*
  * An implementation of the nine calls of each kind of runs, written from
- * document 01 and slips 1, 3 and 4 of document 02 alone, for comparison. It
+ * document 01 and slips 1, 3, 4 and 5 of document 02 alone, for comparison. It
  * prefers the obvious to the fast: remainders by `%` on 128 bits, every
  * condition of the refusal table evaluated by itself, terms added from first
  * to last.
@@ -68,7 +68,10 @@ int64_t ref_term_exponent(ref_formula *f, uint64_t p, uint64_t row, uint64_t k);
 int ref_term_added(ref_formula *f, uint64_t row, uint64_t k);
 ref_u128 ref_term_size(ref_formula *f, uint64_t p, uint64_t row, uint64_t k);
 
-/* The number of a run's terms that are added, or of those that are subtracted: a and b of the documents. */
+/*
+ * The number of a run's charged terms, those with E of 0 or more, that are
+ * added, or of those that are subtracted: a and b of the documents.
+ */
 uint64_t ref_charged_terms(ref_formula *f, uint64_t p, int added);
 
 /* Little-endian numbers, and the ledger, for the closing's own file. */

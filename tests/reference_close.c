@@ -1,4 +1,4 @@
-/* The closing of document 01 and slips 1 and 4 of document 02, apart from the other calls. */
+/* The closing of document 01 and slips 1, 4 and 5 of document 02, apart from the other calls. */
 #include "reference.h"
 
 enum { SIZE = 1 << 1, LEDGER = 1 << 5, UNMARKED = 1 << 8, UNSETTLED = 1 << 9 };
@@ -21,10 +21,17 @@ static struct whole minus(ref_u128 total, uint64_t units)
     return difference;
 }
 
+/* The number of a row's terms with E of 0 or more. They are its first ones, since E falls from each to the next. */
+static uint64_t charged_in_row(ref_formula *f, uint64_t p, uint64_t row)
+{
+    return (4 * (p - 1) + 128 + (uint64_t)f->row[row].l) / f->step + 1;
+}
+
 uint64_t ref_charged_terms(ref_formula *f, uint64_t p, int added)
 {
-    uint64_t terms = ref_term_count(f, p), charged = 0;
+    uint64_t charged = 0;
     for (uint64_t row = 0; row < f->rows; row++) {
+        uint64_t terms = charged_in_row(f, p, row);
         if (ref_term_added(f, row, 0) == added)
             charged += terms - terms / 2;
         if (ref_term_added(f, row, 1) == added)

@@ -1,4 +1,7 @@
-/* The reference against vectors.txt: terms, counts, blocks, tickets and halves. No engine is linked. */
+/*
+ * The reference against vectors.txt: terms, counts, blocks, tickets and halves;
+ * and its a and b against a count term by term. No engine is linked.
+ */
 #include "vectors.h"
 
 #include <inttypes.h>
@@ -54,6 +57,16 @@ static void compare_upper_half(const struct block_vector *v)
     compare_range(v, "upper half", cut_of(v), end_of(v));
 }
 
+/* a and b are the charged terms of all rows, of which none has a charged term from K on. */
+static void compare_charges(uint64_t p)
+{
+    CHECK(ref_charged_terms(FORMULA, p, 1) == count_charged(p, 1), "a of p %" PRIu64, p);
+    CHECK(ref_charged_terms(FORMULA, p, 0) == count_charged(p, 0), "b of p %" PRIu64, p);
+    for (uint64_t row = 0; row < ROWS; row++)
+        CHECK(ref_term_exponent(FORMULA, p, row, ref_term_count(FORMULA, p)) < 0,
+              "E of term K of p %" PRIu64 " row %" PRIu64, p, row);
+}
+
 /* The reference's call by the formula that is tried. */
 #define WORKING(name) \
     static int64_t name(uint64_t p, uint64_t c, uint64_t row, uint64_t block, uint8_t *sum, size_t sum_len) \
@@ -76,5 +89,8 @@ int main(int argc, char **argv)
     compare_sums("ticket", work, 100);
     compare_sums("lower", work_lower, 100);
     compare_sums("upper", work_upper, 100);
+    for (uint64_t p = 1; p <= 3000; p++)
+        compare_charges(p);
+    compare_charges(1000000);
     return finish();
 }
