@@ -169,12 +169,18 @@ static u128 exact_quotient(uint64_t r, uint64_t n, uint64_t mu)
     return (u128)upper << 64 | lower;
 }
 
+/* E of term k. */
+static int64_t exponent(const formula *f, uint64_t p, uint64_t row, uint64_t k)
+{
+    return 4 * (int64_t)(p - 1) + f->row[row].l - (int64_t)(f->step * k) + 128;
+}
+
 static u128 term(const formula *f, uint64_t p, uint64_t row, uint64_t k)
 {
-    uint64_t n = f->row[row].m * k + f->row[row].j, step = WRONG_IN_CHECK(128) ? 10 : f->step;
+    uint64_t n = f->row[row].m * k + f->row[row].j;
     if (WRONG(61) || WRONG(164))
         n &= ((uint64_t)1 << (WRONG(61) ? 33 : 32)) - 1;
-    int64_t e = 4 * (int64_t)(p - !WRONG(7)) + f->row[row].l - (int64_t)(step * k) + 128;
+    int64_t e = exponent(f, p + WRONG(7), row, k) - (WRONG_IN_CHECK(128) ? 6 * (int64_t)k : 0);
     if (e < (WRONG(33) ? 8 : 0))
         return 0;
     if (e < (WRONG(34) ? 127 : 128))
@@ -755,18 +761,46 @@ static int agreeing_digits(u128 low, u128 high)
     return d;
 }
 
-/* The number of the run's terms that are subtracted, or that are not. */
+/* The least E with which a term is charged, and that of wrong engines. */
+static int64_t least_charged(const formula *f, uint64_t p, int subtracted)
+{
+    if (WRONG(166) || WRONG_IN_CHECK(173) || WRONG_IN_BELLARD(175) || (WRONG(180) && p > 1000))
+        return INT64_MIN;
+    if (subtracted ? WRONG(168) : WRONG(167))
+        return INT64_MIN;
+    return WRONG(169) ? 1 : WRONG(170) ? -1 : 0;
+}
+
+/* The number of a row's charged terms: all but those at its end whose E is too small. */
+static uint64_t charged_in_row(const formula *f, uint64_t p, uint64_t row, int64_t least)
+{
+    uint64_t terms = WRONG(25) ? terms_of(f, p) & ~(uint64_t)1 : terms_of(f, p);
+    if (WRONG(176))
+        least += f->row[row].l;
+    if (WRONG(177))
+        row = 0;
+    while (exponent(f, p + WRONG(178), row, terms - 1) < least || (WRONG(179) && term(f, p, row, terms - 1) == 0))
+        terms--;
+    return terms;
+}
+
+/* The number of the run's charged terms that are subtracted, or that are not. */
 static uint64_t charged(const formula *f, uint64_t p, int subtracted)
 {
-    uint64_t terms = terms_of(f, p), count = 0;
+    uint64_t count = subtracted && WRONG_IN_CHECK(174) ? 1 : 0;
     if (WRONG_IN_BELLARD(163))
-        return subtracted ? 3 * terms : terms;
-    if (WRONG(25))
-        terms &= ~(uint64_t)1;
-    uint64_t odd = f->alternates || WRONG(134) ? terms / 2 : 0;
-    for (uint64_t row = 0; row < f->rows; row++)
-        count += f->row[row].subtracted == subtracted ? terms - odd : odd;
-    return subtracted && WRONG_IN_CHECK(132) ? count - terms : count;
+        return subtracted ? 3 * terms_of(f, p) - 2 : terms_of(f, p);
+    if (WRONG_IN_CHECK(132) && subtracted)
+        return 2 * terms_of(f, p);
+    for (uint64_t row = 0; row < f->rows; row++) {
+        uint64_t terms = charged_in_row(f, p, row, least_charged(f, p, subtracted));
+        uint64_t odd = f->alternates || WRONG(134) ? terms / 2 : 0, even = terms - odd;
+        if (f->row[row].subtracted == subtracted)
+            count += WRONG_IN_BELLARD(171) ? odd : even;
+        else
+            count += WRONG_IN_BELLARD(172) ? even : odd;
+    }
+    return count;
 }
 
 /* The number of digits that the total settles, 0 where it settles none, and the low end. */
@@ -774,7 +808,7 @@ static int settled_digits(const formula *f, const uint8_t *ledger, u128 *low)
 {
     uint64_t p = load(ledger, 8), a = charged(f, p, WRONG_IN_CHECK(133)), b = charged(f, p, !WRONG_IN_CHECK(133));
     u128 total = total_of(f, ledger), high = total + a + (WRONG(29) ? 0 : 1);
-    *low = total - b - 1;
+    *low = total - b - (WRONG(165) ? 0 : 1);
     /* Rounded toward 0, both quotients are 0 by every power of two above -low and high. */
     if (WRONG(12) && *low > total)
         high |= -*low, *low = 0;
