@@ -15,36 +15,43 @@ No Montgomery arithmetic, no inverse of N, no C.
 
 A ticket's sum is the signed sum of its q, reduced modulo 2^128 at the end. So
 is that of a half, over the terms before floor((first + end) / 2) or from there.
-A closing compares two floor divisions for d = 32 down to 1, by whole numbers
-of any sign. The digits of pi that closings are compared with come from
-Machin's formula, not from either of these.
+
+A term is charged if its E is 0 or more (document 02, slip 5). a and b, the numbers
+of added and of subtracted charged terms, come from the last charged k of each row;
+up to p = 10^6 they are counted term by term as well, and compared. A closing
+compares two floor divisions for d = 32 down to 1, by whole numbers of any sign. It
+has at least the digits that it has where every term is charged: both are worked
+and compared. The digits of pi that closings are compared with come from Machin's
+formula, not from either of these.
 """
 import collections
+import functools
 import random
 import sys
 
 M = 1 << 128
 WRITTEN_OUT = 10**6
+COUNTED = 10**6
 
 
-def bellard_charges(K):
+def bellard_terms(K):
     if K % 2 == 0:
         return 7 * K // 2, 7 * K // 2
     return 7 * (K - 1) // 2 + 2, 7 * (K - 1) // 2 + 5
 
 
-def check_charges(K):
+def check_terms(K):
     return K, 3 * K
 
 
-# A kind of runs. The rows are (m, j, l, sign); `charges` gives a and b from K. At p = 1, C = 256 block `one_term` has one
-# term; at the last position and C = 256 block `wrapping` ends past 2^64 / 256.
-Formula = collections.namedtuple("Formula", "title prefix last step alternates charges one_term wrapping rows")
-BELLARD = Formula("", "", 1 << 60, 10, True, bellard_charges, 18, 39,
-                  [(4, 1, -1, -1), (4, 3, -6, -1), (10, 1, 2, 1), (10, 3, 0, -1),
-                   (10, 5, -4, -1), (10, 7, -4, -1), (10, 9, -6, 1)])
-CHECK = Formula("Check runs. ", "check-", 1 << 59, 4, False, check_charges, 7, 31,
-                [(8, 1, 2, 1), (2, 1, -1, -1), (8, 5, 0, -1), (4, 3, -1, -1)])
+# A kind of runs. The rows are (m, j, l, sign); `all_terms` gives from K the numbers of added and of subtracted terms, charged
+# or not. At p = 1, C = 256 block `one_term` has one term; at the last position and C = 256 block `wrapping` ends past 2^64 / 256.
+Formula = collections.namedtuple("Formula", "title prefix last step alternates all_terms one_term wrapping rows")
+BELLARD = Formula("", "", 1 << 60, 10, True, bellard_terms, 18, 39,
+                  ((4, 1, -1, -1), (4, 3, -6, -1), (10, 1, 2, 1), (10, 3, 0, -1),
+                   (10, 5, -4, -1), (10, 7, -4, -1), (10, 9, -6, 1)))
+CHECK = Formula("Check runs. ", "check-", 1 << 59, 4, False, check_terms, 7, 31,
+                ((8, 1, 2, 1), (2, 1, -1, -1), (8, 5, 0, -1), (4, 3, -1, -1)))
 
 
 def row_numbers(f):
@@ -98,18 +105,43 @@ def ticket(f, p, c, row, i):
     return range_sum(f, p, row, *block(f, p, c, i))
 
 
+def last_charged(f, p, row):
+    k = numbers(f, p, row, 0)[1] // f.step
+    assert numbers(f, p, row, k)[1] >= 0 > numbers(f, p, row, k + 1)[1] and k < terms_in_row(f, p)
+    return k
+
+
+def counted_charges(f, p):
+    terms = (numbers(f, p, row, k) for row in row_numbers(f) for k in range(terms_in_row(f, p)))
+    count = collections.Counter(s for _, E, s in terms if E >= 0)
+    return count[1], count[-1]
+
+
+@functools.lru_cache(maxsize=None)
 def charges(f, p):
-    return f.charges(terms_in_row(f, p))
+    count = collections.Counter()
+    for row in row_numbers(f):
+        k = last_charged(f, p, row)
+        count[numbers(f, p, row, 0)[2]] += k // 2 + 1
+        count[numbers(f, p, row, 1)[2]] += (k + 1) // 2
+    assert p > COUNTED or (count[1], count[-1]) == counted_charges(f, p)
+    return count[1], count[-1]
 
 
-def closing(f, p, total):
-    a, b = charges(f, p)
+def settled(total, a, b):
     low, high = total - b - 1, total + a + 1
     for d in range(32, 0, -1):
         unit = 1 << (128 - 4 * d)
         if low // unit == high // unit:
             return d, "%0*X" % (d, low // unit % (1 << (4 * d)))
     return -9, "-"
+
+
+def closing(f, p, total):
+    d, digits = settled(total, *charges(f, p))
+    before, digits_before = settled(total, *f.all_terms(terms_in_row(f, p)))
+    assert before == -9 or d >= before and digits.startswith(digits_before)
+    return d, digits
 
 
 def pi_digits(count):
@@ -205,7 +237,8 @@ def bellard_figures():
         block_line(f, p, c, i)
     assert halves(f, 1, 256, 0) == ((0, 0), (0, 0)) and halves(f, 1, 256, 255) == ((13, 13), (13, 14))
     assert halves(f, 1, 3, 2) == ((9, 11), (11, 14))
-    assert charges(f, 1) == (49, 49)
+    assert charges(f, 1) == (44, 48)
+    assert [closing(f, 1, total)[0] for total in (48, 49, 50, M - 46, M - 45)] == [-9, 30, 30, 30, -9]
     assert numbers(f, f.last, 3, (4 * (f.last - 1)) // 10)[0] == (1 << 62) - 1
 
 
@@ -227,7 +260,10 @@ def check_figures():
         for i in places:
             block_line(f, 1, c, i)
     assert halves(f, 1, 256, 7) == ((0, 0), (0, 1)) and halves(f, 1, 3, 2) == ((22, 27), (27, 33))
-    assert charges(f, 1) == (33, 99)
+    assert charges(f, 1) == (33, 97)
+    for p in (2, 3, 4, 5, 1000, 10**6, f.last):
+        assert charges(f, p) == (terms_in_row(f, p), 3 * terms_in_row(f, p) - 2)
+    assert [closing(f, 1, total)[0] for total in (97, 98, M - 35, M - 34)] == [-9, 30, 30, -9]
     assert numbers(f, f.last, 2, terms_in_row(f, f.last) - 1)[0] == (1 << 62) + 253
 
 
@@ -347,6 +383,16 @@ def far_ticket_and_halves(f):
     sum_line(f, "far", *case, half_lines(f, *case, ("far-lower", "far-upper")))
 
 
+# Totals on both sides of the edges, and of the edges that there would be with every term charged.
+def edge_lines(f, p):
+    offsets = set()
+    for a, b in (charges(f, p), f.all_terms(terms_in_row(f, p))):
+        offsets |= {b, b + 1, -a - 2, -a - 1}
+    for multiple in (1 << 124, 5 << 120, 9 << 100, 0xABC << 80, 0):
+        for off in sorted(offsets):
+            closing_line(f, p, (multiple + off) % M)
+
+
 def closings(f):
     title(f, "Closings, all tickets marked: {}closing p total answer digits")
     a, b = charges(f, 1)
@@ -361,20 +407,21 @@ def closings(f):
     for p in (1, 2, 3, 4, 5, 6, 1000, 10**6, 10**12, f.last // 2, f.last - 1, f.last):
         for _ in range(4):
             closing_line(f, p, rng.getrandbits(128))
-        a, b = charges(f, p)
-        for edge in (1 << 124, 5 << 120, 9 << 100, 0xABC << 80, 0):
-            for off in (b, b + 1, -a - 2, -a - 1):
-                closing_line(f, p, (edge + off) % M)
+        edge_lines(f, p)
+    for p in (7, 8, 9, 10):
+        edge_lines(f, p)
 
 
-def worked_runs(f, digits_at_1):
+# The last position is `longer`, at which there is a digit more than with every term charged.
+def worked_runs(f, digits_at_1, longer):
     title(f, "Runs worked and closed, compared with the digits of pi")
     pi = pi_digits(1100)
-    for p in (1, 2, 3, 4, 5, 17, 100, 1000):
+    for p in (1, 2, 3, 4, 5, 17, 100, 1000, longer):
         total = sum(ticket(f, p, 1, row, 0) for row in row_numbers(f)) % M
         d, digits = closing(f, p, total)
         assert digits == pi[p - 1:p - 1 + d], p
         assert p > 1 or d == digits_at_1
+        assert p != longer or d == settled(total, *f.all_terms(terms_in_row(f, p)))[0] + 1
         closing_line(f, p, total)
 
 
@@ -390,7 +437,7 @@ def bellard_runs():
     half_tickets(f)
     far_halves(f)
     closings(f)
-    worked_runs(f, 30)
+    worked_runs(f, 30, 529)
 
 
 def check_runs():
@@ -404,7 +451,7 @@ def check_runs():
     half_tickets(f)
     far_ticket_and_halves(f)
     closings(f)
-    worked_runs(f, 29)
+    worked_runs(f, 29, 117)
 
 
 def main():
