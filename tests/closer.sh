@@ -1,5 +1,5 @@
 #!/usr/bin/env bash
-# closer.sh PROGRAM - the closing program on the marked closings of document 01, with the total in one row and
+# closer.sh PROGRAM - the closing program on the marked closings of documents 01 and 02, with the total in one row and
 # spread over the rows, on damaged ledgers, on ledgers of version 1.0.0 and of a check run, and on input of other sizes.
 set -eu
 program=$1
@@ -84,7 +84,9 @@ eights=88888888888888888888888888888888
 
 # finished
 try '1 30 000000000000000000000000000000' 'total 50' full
-try '1 30 FFFFFFFFFFFFFFFFFFFFFFFFFFFFFF' 'total 2^128 - 51' ledger 1 1 1 ffffffffffffffffffffffffffffffcd
+try '1 30 000000000000000000000000000000' 'total 49' ledger 1 1 1 31
+try '1 30 FFFFFFFFFFFFFFFFFFFFFFFFFFFFFF' 'total 2^128 - 46' ledger 1 1 1 ffffffffffffffffffffffffffffffd2
+try '1 30 FFFFFFFFFFFFFFFFFFFFFFFFFFFFFF' 'total 2^128 - 50' ledger 1 1 1 ffffffffffffffffffffffffffffffce
 try '1 1 1' 'total 2^124 + 2^120' ledger 1 1 1 11000000000000000000000000000000
 try '1 30 0123456789ABCDEFFEDCBA98765432' 'every digit' ledger 1 1 1 0123456789abcdeffedcba9876543280
 try '1 30 000000000000000000000000000000' '256 blocks' ledger 1 100 "$ones$ones" 32
@@ -128,7 +130,7 @@ try 'refused 8' 'the last row unmarked' last_row_unmarked
 try 'refused 8' 'one block of 256 unmarked' ledger 1 100 "7${ones:1}$ones" 32
 try 'refused 9' 'total 0' ledger 1 1 1
 try 'refused 9' 'total 0 of two sums' ledger 1 1 1 "$ones" 0 0 0 0 0 1
-try 'refused 9' 'total 49' ledger 1 1 1 31
-try 'refused 9' 'total 2^128 - 50' ledger 1 1 1 ffffffffffffffffffffffffffffffce
+try 'refused 9' 'total 48' ledger 1 1 1 30
+try 'refused 9' 'total 2^128 - 45' ledger 1 1 1 ffffffffffffffffffffffffffffffd3
 try 'refused 9' 'seven sums of 2^128 - 1' ledger 1 1 1 "$ones" "$ones" "$ones" "$ones" "$ones" "$ones" "$ones"
 echo "closer: $checks checks"

@@ -1,4 +1,7 @@
-/* close against the reference, and against closings whose answers stand here and in vectors.txt. */
+/*
+ * close against the reference, against closings whose answers stand here and in
+ * vectors.txt, and against closings of versions that charged every term.
+ */
 #include "common.h"
 #include "vectors.h"
 
@@ -179,12 +182,60 @@ static void compare_vector(const struct closing_vector *vector)
 #define EIGHTS SUM(UINT64_C(0x8888888888888888), UINT64_C(0x8888888888888888))
 
 /*
- * Full ledgers: the marked closings of document 01 at p = 1, their like in a
- * check run, and others. A run has at p = 1 and at p = 4 so many added terms (a)
- * and subtracted ones (b).
+ * Runs with the numbers of their charged terms, added (a) and subtracted (b), and
+ * the number of digits that a total one unit off an edge settles. The edges at
+ * p = 1 are the marked closings of document 02, slip 5, or their like in a check
+ * run. p = 1 to 5 have every residue of 4n modulo 10, and so do p = 6 to 10.
  */
-enum { A_OF_1 = OF_KIND(49, 33), B_OF_1 = OF_KIND(49, 99), A_OF_4 = OF_KIND(51, 36), B_OF_4 = OF_KIND(54, 108) };
+static const struct {
+    uint64_t p, a, b;
+    int64_t d;
+} runs[] = {
+    {1, OF_KIND(44, 33), OF_KIND(48, 97), 30},
+    {2, OF_KIND(46, 34), OF_KIND(48, 100), 30},
+    {3, OF_KIND(49, 35), OF_KIND(49, 103), 30},
+    {4, OF_KIND(50, 36), OF_KIND(50, 106), 30},
+    {5, OF_KIND(50, 37), OF_KIND(53, 109), 30},
+    {6, OF_KIND(51, 38), OF_KIND(55, 112), 30},
+    {7, OF_KIND(53, 39), OF_KIND(55, 115), 30},
+    {8, OF_KIND(56, 40), OF_KIND(56, 118), 30},
+    {9, OF_KIND(57, 41), OF_KIND(57, 121), 30},
+    {10, OF_KIND(57, 42), OF_KIND(60, 124), 30},
+    {1000, OF_KIND(1443, 1032), OF_KIND(1446, 3094), OF_KIND(29, 28)},
+    {1000000, OF_KIND(1400043, 1000032), OF_KIND(1400046, 3000094), 26},
+    {LAST_POSITION - 1, OF_KIND(UINT64_C(1614090106449585808), UINT64_C(576460752303423519)),
+     OF_KIND(UINT64_C(1614090106449585811), UINT64_C(1729382256910270555)), 16},
+    {LAST_POSITION, OF_KIND(UINT64_C(1614090106449585809), UINT64_C(576460752303423520)),
+     OF_KIND(UINT64_C(1614090106449585813), UINT64_C(1729382256910270558)), 16},
+};
+enum { RUNS = sizeof runs / sizeof runs[0] };
 
+/* The totals on both sides of both edges. */
+static void try_edges(void)
+{
+    for (int i = 0; i < RUNS; i++) {
+        ref_u128 a = runs[i].a, b = runs[i].b;
+        full_ledger(runs[i].p, any_blocks());
+        close_everywhere(b, -9, "", "total b");
+        close_everywhere(b + 1, runs[i].d, ZEROS_30, "total b + 1");
+        close_everywhere(-a - 2, runs[i].d, FS_30, "total 2^128 - a - 2");
+        close_everywhere(-a - 1, -9, "", "total 2^128 - a - 1");
+    }
+}
+
+/* The numbers of `runs`, where so many terms can be counted. */
+static void count_terms(void)
+{
+    for (int i = 0; i < RUNS && runs[i].p <= 1000; i++) {
+        CHECK(count_charged(runs[i].p, 1) == runs[i].a, "a of p %" PRIu64, runs[i].p);
+        CHECK(count_charged(runs[i].p, 0) == runs[i].b, "b of p %" PRIu64, runs[i].p);
+    }
+}
+
+/*
+ * Full ledgers: the other marked closings of document 01 at p = 1, totals at the
+ * edges of versions that charged terms with E below 0 as well, and others.
+ */
 static const struct {
     const char *what;
     uint64_t p;
@@ -193,19 +244,17 @@ static const struct {
     const char *digits;
 } closings[] = {
     {"total 0", 1, 0, -9, ""},
-    {"total b", 1, B_OF_1, -9, ""},
-    {"total b + 1", 1, B_OF_1 + 1, 30, ZEROS_30},
-    {"total 2^128 - a - 2", 1, SUM(UINT64_MAX, UINT64_MAX - A_OF_1 - 1), 30, FS_30},
-    {"total 2^128 - a - 1", 1, SUM(UINT64_MAX, UINT64_MAX - A_OF_1), -9, ""},
+    {"total b of version 2.2.0", 1, OF_KIND(49, 99), 30, ZEROS_30},
+    {"total b of version 2.2.0, and 1", 1, OF_KIND(50, 100), 30, ZEROS_30},
+    {"total 2^128 - 51", 1, SUM(UINT64_MAX, UINT64_MAX - 50), 30, FS_30},
+    {"total 2^128 - 50", 1, SUM(UINT64_MAX, UINT64_MAX - 49), 30, FS_30},
     {"total 2^128 - 7", 1, SUM(UINT64_MAX, UINT64_MAX - 6), -9, ""},
     {"total 2^128 - 1", 1, SUM(UINT64_MAX, UINT64_MAX), -9, ""},
     {"total 2^127", 1, SUM(UINT64_C(1) << 63, 0), -9, ""},
     {"total 2^124", 1, SUM(UINT64_C(1) << 60, 0), -9, ""},
     {"total 2^124 + 2^120", 1, SUM((UINT64_C(1) << 60) + (UINT64_C(1) << 56), 0), 1, "1"},
-    {"total b", 4, B_OF_4, -9, ""},
-    {"total b + 1", 4, B_OF_4 + 1, 30, ZEROS_30},
-    {"total 2^128 - a - 2", 4, SUM(UINT64_MAX, UINT64_MAX - A_OF_4 - 1), 30, FS_30},
-    {"total 2^128 - a - 1", 4, SUM(UINT64_MAX, UINT64_MAX - A_OF_4), -9, ""},
+    {"total b of version 2.2.0", 4, OF_KIND(54, 108), 30, ZEROS_30},
+    {"total 2^128 - 52", 4, SUM(UINT64_MAX, UINT64_MAX - 51), 30, FS_30},
     {"total 2^128 - 7", 1000000, SUM(UINT64_MAX, UINT64_MAX - 6), -9, ""},
     {"total 888..", 1000000, EIGHTS, 26, "88888888888888888888888888"},
     {"total 888..", LAST_POSITION - 1, EIGHTS, 16, "8888888888888888"},
@@ -226,15 +275,70 @@ static int64_t close_total(ref_u128 total)
     return compare();
 }
 
-/* Every total within a few hundred units of the edges at p = 1 to 7, for even and odd K. */
+/* Every total within a few hundred units of the edges at p = 1 to 10, for even and odd K. */
 static void every_edge(void)
 {
-    for (uint64_t p = 1; p <= 7; p++) {
+    for (uint64_t p = 1; p <= 10; p++) {
         full_ledger(p, any_blocks());
         for (uint64_t digit = 0; digit < 16; digit += 5)
             for (uint64_t step = 0; step < 300; step++)
                 close_total(((ref_u128)digit << 124) + step - 150);
     }
+}
+
+/* a and b of versions 1.0.0 to 2.2.0: all added and all subtracted terms of the K of every row. */
+static uint64_t all_terms(uint64_t p, int added)
+{
+    uint64_t terms = ref_term_count(FORMULA, p);
+    return OF_KIND(7 * (terms / 2) + terms % 2 * (added ? 2 : 5), added ? terms : 3 * terms);
+}
+
+/* The number of digits that a total settled with these, 0 where it was refused. */
+static int settled_before(uint64_t p, ref_u128 total)
+{
+    ref_u128 low = total - all_terms(p, 0) - 1, high = total + all_terms(p, 1) + 1;
+    int d = 0;
+    while (low < high && d < 32 && low >> (124 - 4 * d) == high >> (124 - 4 * d))
+        d++;
+    return d;
+}
+
+/* How many totals had digits and have more now, and how many were refused and have some. */
+static struct {
+    uint64_t more, anew;
+} gained;
+
+/* The digits settled before are settled now. They are the first of the total, which lies between low and high. */
+static void expect_digits_of_before(uint64_t p, ref_u128 total)
+{
+    uint8_t digits[32];
+    int before = settled_before(p, total);
+    put_total(total);
+    int64_t now = CALL(close)(t.ledger, LEDGER_SIZE, digits, 32);
+    CHECK(before == 0 || now >= before, "p %" PRIu64 ": answer %" PRId64 ", %d digits before", p, now, before);
+    for (int i = 0; i < before; i++)
+        CHECK(digits[i] == "0123456789ABCDEF"[total >> (124 - 4 * i) & 15], "p %" PRIu64 ": digit %d", p, i + 1);
+    gained.more += before > 0 && now > before;
+    gained.anew += before == 0 && now > 0;
+}
+
+/* Totals at random, and those around the edges of now and of before, on both sides of a multiple of 2^(128 - 4d). */
+static void no_digit_lost(void)
+{
+    for (int i = 0; i < RUNS; i++) {
+        uint64_t p = runs[i].p, a = all_terms(p, 1), b = all_terms(p, 0);
+        full_ledger(p, any_blocks());
+        for (int d = 1; d <= 32; d++) {
+            ref_u128 multiple = any_sum() >> (128 - 4 * d) << (128 - 4 * d);
+            for (uint64_t step = 0; step < 9; step++) {
+                expect_digits_of_before(p, multiple + b - 6 + step);
+                expect_digits_of_before(p, multiple - a + 5 - step);
+            }
+            expect_digits_of_before(p, any_sum());
+        }
+    }
+    CHECK(gained.more > 0, "no closing has more digits than before");
+    CHECK(gained.anew > 0, "no closing that was refused has digits");
 }
 
 /* A full ledger whose total settles thirty digits, in so many bytes, and one with one byte changed. */
@@ -340,9 +444,12 @@ int main(int argc, char **argv)
     every_ledger_size(settled_at_1, compare, &t.ledger_len, 30);
     ledger_of_version_1();
     null_and_huge_examples();
+    count_terms();
+    try_edges();
     try_closings();
     CHECK(each_closing(compare_vector) > 100, "vectors.txt has too few closings");
     every_edge();
+    no_digit_lost();
     one_unmarked(1);
     one_unmarked(9);
     one_unmarked(256);

@@ -1,8 +1,9 @@
 /*
  * The small examples of document 01's refusal table, each put to every call
- * that it fits, and what slips 1 and 4 of document 02 turn away: ledgers of 256
- * bytes or of the other kind's size, and what is past the kind's last row or
- * position. The answers stand here; no reference is asked.
+ * that it fits, and what slips 1, 4 and 5 of document 02 turn away: ledgers of
+ * 256 bytes or of the other kind's size, what is past the kind's last row or
+ * position, and totals at the edges of p = 1. The answers stand here; no
+ * reference is asked.
  */
 #include "common.h"
 
@@ -118,6 +119,8 @@ enum {
 #define FRESH {LEDGER_SIZE, 1, 1, 0, UNPATCHED}
 #define FULL(len) {len, 1, 1, 1, UNPATCHED}
 #define ZEROS {LEDGER_SIZE, 0, 0, 0, UNPATCHED}
+/* The total in the first row. */
+#define TOTAL(upper, lower) {LEDGER_SIZE, 1, 1, 1, {{SUM_AT(0) + 8, 8, upper}, {SUM_AT(0), 8, lower}}}
 /* The sums of the first row and the last are 2^127 each. */
 #define HALVES {LEDGER_SIZE, 1, 1, 1, {{SUM_AT(0) + 15, 1, 128}, {SUM_AT(LAST_ROW) + 15, 1, 128}}}
 
@@ -141,6 +144,8 @@ static const struct example examples[] = {
     {8, "closing a fresh ledger", CLOSE, FRESH, 1, 1, 0, {0, 0}},
     {9, "p = 1, all marked, total 0", CLOSE, FULL(LEDGER_SIZE), 1, 1, 0, {0, 0}},
     {9, "p = 1, all marked, total 0 of two sums", CLOSE, HALVES, 1, 1, 0, {0, 0}},
+    {9, "p = 1, all marked, total b", CLOSE, TOTAL(0, OF_KIND(48, 97)), 1, 1, 0, {0, 0}},
+    {9, "p = 1, all marked, total 2^128 - a - 1", CLOSE, TOTAL(UINT64_MAX, UINT64_MAX - OF_KIND(44, 33)), 1, 1, 0, {0, 0}},
 };
 
 /* The example's call is refused, and no byte of what was lent is changed. */
