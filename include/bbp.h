@@ -67,8 +67,8 @@ extern "C" {
 #endif
 
 /* The version. BBP_VERSION grows from each version to the next, so that #if can compare it. */
-#define BBP_VERSION_MAJOR 2
-#define BBP_VERSION_MINOR 2
+#define BBP_VERSION_MAJOR 3
+#define BBP_VERSION_MINOR 0
 #define BBP_VERSION_PATCH 0
 #define BBP_VERSION (1000000 * BBP_VERSION_MAJOR + 1000 * BBP_VERSION_MINOR + BBP_VERSION_PATCH)
 #define BBP_VERSION_STRING \
@@ -231,9 +231,19 @@ int64_t bbp_check_sheet_post(uint8_t *ledger, size_t ledger_len, const uint8_t *
  * left as found. The first is the digit at position p. The total that settles
  * them is the sum of all row sums modulo 2^128. The ledger is not changed.
  * Answers d, or refusal 1 (ledger_len not BBP_LEDGER_SIZE, digits_len not 32),
- * 5, 8 or 9. A ledger of 256 bytes, as version 1.0.0 kept it, is closed with
- * the closing program of that version. The closing program is for ledgers of
- * Bellard's runs; a check run is closed with this call alone.
+ * 5, 8 or 9.
+ *
+ * The digits are the first ones that total - b - 1 and total + a + 1 share. A
+ * term is charged if its exponent E is 0 or more; a is the number of added
+ * charged terms and b of subtracted ones, over all rows, and the one unit more
+ * on each side covers all other terms (docs/FORMATS.md, section 7). Versions
+ * before 3.0.0 charged terms with E below 0 as well: this version gives at least
+ * the digits that version 2.2.0 gave of the same ledger, of some ledgers more,
+ * and it settles some that were refused with 9.
+ *
+ * A ledger of 256 bytes, as version 1.0.0 kept it, is closed with the closing
+ * program of that version. The closing program is for ledgers of Bellard's
+ * runs; a check run is closed with this call alone.
  */
 int64_t bbp_close(const uint8_t *ledger, size_t ledger_len, uint8_t *digits, size_t digits_len);
 int64_t bbp_check_close(const uint8_t *ledger, size_t ledger_len, uint8_t *digits, size_t digits_len);

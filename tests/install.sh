@@ -50,8 +50,8 @@ same "acceptance --halves 1000" "$("$scratch/acceptance" --halves 1000)" "1000 2
 cat >"$scratch/version.c" <<'END'
 #include <bbp.h>
 #include <stdio.h>
-#if BBP_VERSION < 2002000
-#error "older than check runs"
+#if BBP_VERSION < 3000000
+#error "older than the closing by charged terms"
 #endif
 int main(void) { printf("%s %ld\n", BBP_VERSION_STRING, (long)BBP_VERSION); return 0; }
 END
