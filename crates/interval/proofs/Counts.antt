@@ -18,8 +18,8 @@ use Rattle.series.proofs.Numbers.{step-positive}
 use Rattle.series.proofs.Sides.{same-sign, row-ext, row-none, row-split, over-ext}
 use Rattle.interval.specs.Interval.{isCharged, everyTerm, charges}
 use Rattle.interval.specs.Counts.{chargedIn, sideCount, closedCharges, CountsAsGiven, EveryTermCounts}
-use Rattle.interval.proofs.Charged.{charged, uncharged, before-K}
-use Rattle.interval.proofs.Premises.{lead-small}
+use Rattle.interval.proofs.Charged.{charged, uncharged, first-ones}
+use Rattle.interval.proofs.Premises.{charged-before-K}
 
 -- ---- the terms of a row on a side
 
@@ -90,8 +90,7 @@ closed : (f : Series) (side : Side) (p : ℕ)
     → charges isCharged (formulaOf f) side p (termCount (formulaOf f) p) ≡ closedCharges (formulaOf f) side p
 unfolding charges sideSum closedCharges
 closed f side p =
-    over-ext _ _ (formulaOf f .rows) (λ r m. row-closed (formulaOf f) side p (termCount (formulaOf f) p) r (step-positive f)
-    (before-K (formulaOf f) p r (step-positive f) (lead-small f r m)))
+    over-ext _ _ (formulaOf f .rows) (λ r m. row-closed (formulaOf f) side p (termCount (formulaOf f) p) r (step-positive f) (charged-before-K f p r m))
 
 -- the even terms and the odd ones are all of them
 evens : (c : ℕ) → (c + 1) / 2 ≡ c - c / 2
@@ -102,6 +101,8 @@ unfolding termCount closedCharges chargedIn sideCount overRows onSide isAdded
 counts-as-given = record {
   bellard-K = λ p. refl;
   check-K = λ p. refl;
+  first-ones = λ f p r k. first-ones (formulaOf f) p r (step-positive f) k;
+  before-K = charged-before-K;
   closed = closed;
   check-a = λ p. closed Check plus p ∙ simp evens (omega arith);
   check-b = λ p. closed Check minus p ∙ simp evens (omega arith);

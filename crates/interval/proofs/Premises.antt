@@ -15,6 +15,7 @@ use Rattle.series.specs.declared.Series.{Series}
 use Rattle.series.specs.declared.Series.the-variants.{Bellard, Check}
 use Rattle.series.proofs.Numbers.{step-positive}
 use Rattle.interval.specs.Interval.{isCharged, Positive, RestBelowUnit}
+use Rattle.interval.specs.Counts.{chargedIn}
 use Rattle.interval.proofs.Charged.{before-K}
 use Rattle.interval.proofs.Rest.{percent, rest-below}
 
@@ -45,9 +46,12 @@ positive f r m k =
     let h = leb-true 1 (r .j) (and-left (leb 1 (r .j)) (leb (r .lead) 130) (tested f r m)) in
     omega arith
 
-pub lead-small : (f : Series) (r : Row) → List·Memᴰ r (formulaOf f .rows) → r .lead ≤ 130
+lead-small : (f : Series) (r : Row) → List·Memᴰ r (formulaOf f .rows) → r .lead ≤ 130
 unfolding isRow
 lead-small f r m = leb-true (r .lead) 130 (and-right (leb 1 (r .j)) (leb (r .lead) 130) (tested f r m))
+
+pub charged-before-K : (f : Series) (p : ℕ) (r : Row) → List·Memᴰ r (formulaOf f .rows) → chargedIn (formulaOf f) p r ≤ termCount (formulaOf f) p
+charged-before-K f p r m = before-K (formulaOf f) p r (step-positive f) (lead-small f r m)
 
 -- the rows' parts of a unit come to less than a hundred hundredths
 isSmall : (f : Series) → ltb (overRows percent (formulaOf f .rows)) 100 ≡ true
@@ -60,4 +64,4 @@ unfolding Positive
 rest f p =
     let F = formulaOf f in
     rest-below F p (termCount F p) (step-positive f) (λ r m. positive f r m 1)
-    (λ r m. before-K F p r (step-positive f) (lead-small f r m)) (ltb-true (overRows percent (formulaOf f .rows)) 100 (isSmall f))
+    (charged-before-K f p) (ltb-true (overRows percent (formulaOf f .rows)) 100 (isSmall f))

@@ -2,7 +2,9 @@
 -- "Closing"; document 02, slips 4 and 5.
 use mathlib.Core.Path.{_≡_}
 use mathlib.Core.Bool.{cond}
-use Prim.Native.Nat.{ℕ, _+_, _*_, _-_, _/_, _%_}
+use mathlib.Core.List.{List·Memᴰ}
+use Prim.Native.Nat.{ℕ, _+_, _*_, _-_, _/_, _%_, _≤_}
+use lib.Dec.{ltb}
 use Rattle.series.specs.Series.{Formula, Row, Side, plus, minus, skipped, rise, termCount, onSide, overRows}
 use Rattle.series.specs.Bellard.{bellard}
 use Rattle.series.specs.Check.{check}
@@ -30,6 +32,9 @@ closedCharges F side p = overRows (λ r. sideCount F side r (chargedIn F p r)) (
 pub record CountsAsGiven : Type 0 where
   pub bellard-K : (p : ℕ) → termCount bellard p ≡ (4 * skipped p + 130) / 10 + 1
   pub check-K : (p : ℕ) → termCount check p ≡ (4 * skipped p + 130) / 4 + 1
+  -- the charged terms of a row are its first ones, as many as that, and all of them stand before K
+  pub first-ones : (f : Series) (p : ℕ) (r : Row) (k : ℕ) → isCharged (formulaOf f) p r k ≡ ltb k (chargedIn (formulaOf f) p r)
+  pub before-K : (f : Series) (p : ℕ) (r : Row) → List·Memᴰ r (formulaOf f .rows) → chargedIn (formulaOf f) p r ≤ termCount (formulaOf f) p
   -- a and b of either formula in closed form
   pub closed : (f : Series) (side : Side) (p : ℕ)
       → charges isCharged (formulaOf f) side p (termCount (formulaOf f) p) ≡ closedCharges (formulaOf f) side p
