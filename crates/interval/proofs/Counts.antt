@@ -1,7 +1,7 @@
 -- a and b of a run, counted term by term, in closed form: of a row's terms the even ones have the sign of term 0 and the odd ones that of
 -- term 1. For the two formulas these are the documents' a and b, by the rule in force and by the one before it.
 -- Assumes nothing.
-use mathlib.Core.Path.{_≡_, refl, sym, ap, _∙_}
+use mathlib.Core.Path.{_≡_, refl, sym, ap, ap₂, _∙_}
 use mathlib.Core.Bool.{Bool, true, false, cond, not}
 use Prim.Native.Nat.{ℕ, zero, suc, _+_, _*_, _-_, _/_, _%_, _≤_, _<_}
 use native.Mathlib.Omega.{arith}
@@ -15,28 +15,13 @@ use Rattle.series.specs.Names.{formulaOf}
 use Rattle.series.specs.declared.Series.{Series}
 use Rattle.series.specs.declared.Series.the-variants.{Check}
 use Rattle.series.proofs.Numbers.{step-positive}
-use Rattle.series.proofs.Sides.{same-sign, row-ext, row-none, row-split, over-ext}
+use Rattle.series.proofs.Sides.{same-sign, cond-none, cond-add, row-ext, row-none, row-split, over-ext}
 use Rattle.interval.specs.Interval.{isCharged, everyTerm, charges}
 use Rattle.interval.specs.Counts.{chargedIn, sideCount, closedCharges, CountsAsGiven, EveryTermCounts}
 use Rattle.interval.proofs.Charged.{charged, uncharged, first-ones}
 use Rattle.interval.proofs.Premises.{charged-before-K}
 
 -- ---- the terms of a row on a side
-
--- one term more: an even one, or an odd one
-next-even : (b d : Bool) (c : ℕ) → c % 2 ≡ 0
-    → cond b ((c + 1) / 2) 0 + cond d (c / 2) 0 + cond b 1 0 ≡ cond b ((suc c + 1) / 2) 0 + cond d (suc c / 2) 0
-next-even true true c e = omega arith
-next-even true false c e = omega arith
-next-even false true c e = omega arith
-next-even false false c e = refl
-
-next-odd : (b d : Bool) (c : ℕ) → (c % 2 ≡ 0 → ⊥)
-    → cond b ((c + 1) / 2) 0 + cond d (c / 2) 0 + cond d 1 0 ≡ cond b ((suc c + 1) / 2) 0 + cond d (suc c / 2) 0
-next-odd true true c n = omega arith
-next-odd true false c n = omega arith
-next-odd false true c n = omega arith
-next-odd false false c n = refl
 
 module _ (F : Formula) (side : Side) (r : Row) where
   same-side : (s : Side) (j k : ℕ) → j % 2 ≡ k % 2 → onSide F s r j ≡ onSide F s r k
@@ -46,24 +31,25 @@ module _ (F : Formula) (side : Side) (r : Row) where
 
   counted : (c : ℕ) → rowSum F side r (λ k. 1) 0 c ≡ sideCount F side r c
   unfolding rowSum sum sideCount
-  counted zero = none (onSide F side r 0) (onSide F side r 1)
+  counted zero = ap₂ _+_ (sym (cond-none (onSide F side r 0))) (sym (cond-none (onSide F side r 1)))
+  counted (suc c) = ap (λ (n : ℕ). n + cond (onSide F side r (0 + c)) 1 0) (counted c) ∙ next (eqb (c % 2) 0) refl
     where
-      none : (b d : Bool) → 0 ≡ cond b 0 0 + cond d 0 0
-      none true true = refl
-      none true false = refl
-      none false true = refl
-      none false false = refl
-  counted (suc c) = ap (λ (n : ℕ). n + cond (onSide F side r (0 + c)) 1 0) (counted c) ∙ go (eqb (c % 2) 0) refl
-    where
-      go : (b : Bool) → eqb (c % 2) 0 ≡ b
+      -- one term more: an even one, or an odd one
+      next : (b : Bool) → eqb (c % 2) 0 ≡ b
           → cond (onSide F side r 0) ((c + 1) / 2) 0 + cond (onSide F side r 1) (c / 2) 0 + cond (onSide F side r (0 + c)) 1 0
           ≡ cond (onSide F side r 0) ((suc c + 1) / 2) 0 + cond (onSide F side r 1) (suc c / 2) 0
-      go true t =
+      next true t =
           let e = eqb-true (c % 2) 0 t in
-          rw (same-side side (0 + c) 0 (omega arith)) (next-even (onSide F side r 0) (onSide F side r 1) c e)
-      go false t =
+          let x : (suc c + 1) / 2 ≡ (c + 1) / 2 + 1 = omega arith in
+          let y : suc c / 2 ≡ c / 2 = omega arith in
+          let s = cond-add (onSide F side r 0) ((c + 1) / 2) 1 in
+          rw (same-side side (0 + c) 0 (omega arith), x, y) (omega (arith, s))
+      next false t =
           let n = eqb-false (c % 2) 0 t in
-          rw (same-side side (0 + c) 1 (omega arith)) (next-odd (onSide F side r 0) (onSide F side r 1) c n)
+          let x : (suc c + 1) / 2 ≡ (c + 1) / 2 = omega arith in
+          let y : suc c / 2 ≡ c / 2 + 1 = omega arith in
+          let s = cond-add (onSide F side r 1) (c / 2) 1 in
+          rw (same-side side (0 + c) 1 (omega arith), x, y) (omega (arith, s))
 
 -- ---- a and b
 

@@ -24,7 +24,11 @@ cond-le : (b : Bool) {x y : ℕ} → x ≤ y → cond b x 0 ≤ cond b y 0
 cond-le true h = h
 cond-le false h = le-refl 0
 
-cond-add : (b : Bool) (x y : ℕ) → cond b (x + y) 0 ≡ cond b x 0 + cond b y 0
+pub cond-none : (b : Bool) → _≡_ {A = ℕ} (cond b 0 0) 0
+cond-none true = refl
+cond-none false = refl
+
+pub cond-add : (b : Bool) (x y : ℕ) → cond b (x + y) 0 ≡ cond b x 0 + cond b y 0
 cond-add true x y = refl
 cond-add false x y = refl
 
@@ -47,11 +51,7 @@ module _ (F : Formula) (side : Side) where
 
   pub row-none : (r : Row) (first count : ℕ) → rowSum F side r (λ k. 0) first count ≡ 0
   unfolding rowSum
-  row-none r first count = sum-zero _ first count (λ k. nothing (onSide F side r k))
-    where
-      nothing : (b : Bool) → _≡_ {A = ℕ} (cond b 0 0) 0
-      nothing true = refl
-      nothing false = refl
+  row-none r first count = sum-zero _ first count (λ k. cond-none (onSide F side r k))
 
   row-add : (r : Row) (v w : ℕ → ℕ) (first count : ℕ)
       → rowSum F side r (λ k. v k + w k) first count ≡ rowSum F side r v first count + rowSum F side r w first count

@@ -152,7 +152,7 @@ module _ (F : Formula) (s digits : List ℕ) (n : ℕ) (answered : answerBefore 
   keeps : Keeps F s digits n
   unfolding closeAnswer closeBytes closingAnswer closingBytes d e
   keeps = record {
-    e = settledAt isCharged F (seen .p) total;
+    now = settledAt isCharged F (seen .p) total;
     no-fewer = subst (λ (m : ℕ). m ≤ settledAt isCharged F (seen .p) total) (was .1) (no-fewer F (seen .p) total some);
     answers = sym (finished _ _ not-now);
     same = ap (take n) (sym (changed _ _ digits not-now))

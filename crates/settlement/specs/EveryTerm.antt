@@ -21,9 +21,9 @@ bytesBefore F s digits = closingBytes everyTerm F (viewOf (limitsOf F) s) (total
 
 -- It closes with d digits or more, and the first d of them are those that it closed with before.
 pub record Keeps (F : Formula) (s digits : List ℕ) (d : ℕ) : Type 0 where
-  pub e : ℕ
-  pub no-fewer : d ≤ e
-  pub answers : closeAnswer F s digits ≡ pos e
+  pub now : ℕ
+  pub no-fewer : d ≤ now
+  pub answers : closeAnswer F s digits ≡ pos now
   pub same : take d (closeBytes F s digits) ≡ take d (bytesBefore F s digits)
 
 pub record NoWider (F : Formula) : Type 0 where
