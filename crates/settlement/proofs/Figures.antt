@@ -1,4 +1,4 @@
--- The marked figures and those of check runs hold, each by computation.
+-- The marked figures, those of the rule before and those of check runs hold, each by computation.
 -- Assumes nothing.
 use mathlib.Core.Path.{_≡_, refl, sym, ap, _∙_}
 use mathlib.Core.Bool.{Bool, cond}
@@ -18,15 +18,16 @@ use Rattle.series.specs.Check.{check}
 use Rattle.series.specs.Names.{formulaOf}
 use Rattle.series.specs.declared.Series.{Series}
 use Rattle.series.specs.declared.Series.the-variants.{Bellard, Check}
-use Rattle.interval.specs.Interval.{isCharged, charges, low, high}
+use Rattle.interval.specs.Interval.{isCharged, everyTerm, charges, low, high}
 use Rattle.interval.specs.Digits.{settledUpTo, settled, hexDigit, hexText, lowDigits}
 use Rattle.run.specs.Refusal.{refusal, answer}
 use Rattle.run.specs.Run.{limitsOf, isTicket}
 use Rattle.ledger.specs.Ledger.{totalOf}
 use Rattle.ledger.specs.Plain.{Plain, plainView, fullPlain, fullLedger}
 use Rattle.closing.specs.Closing.{settledAt, digitsAt, closeRefusal, closingAnswer, closingBytes, closeAnswer, closeBytes}
-use Rattle.closing.proofs.Encoded.{good-full, answer-encoded, bytes-encoded}
-use Rattle.settlement.specs.Figures.{figures, checkFigures, Holds, AllHold, inRow, Spreads}
+use Rattle.closing.proofs.Encoded.{good-full, answer-by, answer-encoded, bytes-encoded}
+use Rattle.settlement.specs.EveryTerm.{answerBefore}
+use Rattle.settlement.specs.Figures.{figures, figuresBefore, checkFigures, Holds, AllHold, inRow, Spreads}
 
 -- the closing of a full ledger is by the total of its sums
 module _ (f : Series) (sums : ℕ → ℕ) (fit : (row : ℕ) → sums row < modulus) where
@@ -46,10 +47,23 @@ module _ (f : Series) (sums : ℕ → ℕ) (fit : (row : ℕ) → sums row < mod
         ∙ ap (λ (n : ℕ). closingBytes isCharged (formulaOf f) (plainView full) n (replicate 32 0)) e ∙ g,
   )
 
+  full-before : (total : ℕ) (a : ℤ) → totalOf (limitsOf (formulaOf f)) sums ≡ total
+      → closingAnswer everyTerm (formulaOf f) (plainView full) total (replicate 32 0) ≡ a
+      → answerBefore (formulaOf f) (fullLedger (limitsOf (formulaOf f)) sums) (replicate 32 0) ≡ a
+  unfolding fullLedger
+  full-before total a e k =
+      answer-by (formulaOf f) full (good-full f sums fit) (replicate 32 0) everyTerm
+      ∙ ap (λ (n : ℕ). closingAnswer everyTerm (formulaOf f) (plainView full) n (replicate 32 0)) e ∙ k
+
 pub figures-hold : AllHold bellard figures
 unfolding AllHold Holds plainView size termCount closingAnswer closingBytes closeRefusal refusal answer settledAt digitsAt settled settledUpTo low high sameℤ allBelow isTicket charges sideSum overRows rowSum sum onSide isAdded isCharged lowDigits hexText hexDigit residue
 figures-hold =
     (refl, (refl, (refl, (refl, (refl, ((refl, refl), ((refl, refl), (refl, (refl, (refl, (refl, ((refl, refl), (λ sums fit e. full-closing Bellard sums fit _ _ _ e refl refl, (λ sums fit e. full-closing Bellard sums fit _ _ _ e refl refl, (λ sums fit e. full-closing Bellard sums fit _ _ _ e refl refl, (λ sums fit e. full-closing Bellard sums fit _ _ _ e refl refl, tt))))))))))))))))
+
+pub figures-before-hold : AllHold bellard figuresBefore
+unfolding AllHold Holds plainView termCount closingAnswer closeRefusal refusal answer settledAt settled settledUpTo low high sameℤ allBelow isTicket charges sideSum overRows rowSum sum onSide isAdded everyTerm
+figures-before-hold =
+    (λ sums fit e. full-before Bellard sums fit _ _ e refl, (λ sums fit e. full-before Bellard sums fit _ _ e refl, (λ sums fit e. full-before Bellard sums fit _ _ e refl, (λ sums fit e. full-before Bellard sums fit _ _ e refl, tt))))
 
 pub check-figures-hold : AllHold check checkFigures
 unfolding AllHold Holds plainView size termCount closingAnswer closingBytes closeRefusal refusal answer settledAt digitsAt settled settledUpTo low high sameℤ allBelow isTicket charges sideSum overRows rowSum sum onSide isAdded isCharged lowDigits hexText hexDigit residue

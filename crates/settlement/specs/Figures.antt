@@ -16,6 +16,7 @@ use Rattle.ledger.specs.Ledger.{totalOf}
 use Rattle.ledger.specs.Plain.{fullLedger}
 use Rattle.closing.specs.Closing.{closeAnswer, closeBytes}
 use Rattle.settlement.specs.Settlement.{ClosesWith}
+use Rattle.settlement.specs.EveryTerm.{answerBefore}
 
 -- A figure, with what the document gives for it.
 pub data Figure : Type 0 where
@@ -29,6 +30,8 @@ pub data Figure : Type 0 where
   chargesAt : ℕ → ℕ → ℕ → Figure
   -- what closing answers, and what 32 zero bytes become: p = 1, C = 1, all marked, with sums of the rows, any at all, that have this total
   closingOf : ℕ → ℤ → List ℕ → Figure
+  -- what closing such a ledger answered while every term was charged
+  closedBefore : ℕ → ℤ → Figure
 
 unfoldable pub Holds : Formula → Figure → Type 0
 Holds F (sizeOf p row k q) = size F p (rowAt F row) k ≡ q
@@ -39,6 +42,9 @@ Holds F (closingOf total a digits) =
     (sums : ℕ → ℕ) → ((row : ℕ) → sums row < modulus) → totalOf (limitsOf F) sums ≡ total
     → (closeAnswer F (fullLedger (limitsOf F) sums) (replicate 32 0) ≡ a)
     × (closeBytes F (fullLedger (limitsOf F) sums) (replicate 32 0) ≡ digits)
+Holds F (closedBefore total a) =
+    (sums : ℕ → ℕ) → ((row : ℕ) → sums row < modulus) → totalOf (limitsOf F) sums ≡ total
+    → answerBefore F (fullLedger (limitsOf F) sums) (replicate 32 0) ≡ a
 
 unfoldable pub AllHold : Formula → List Figure → Type 0
 AllHold F [] = Unit {0}
@@ -53,6 +59,11 @@ figures =
     ∷ chargesAt 1 44 48
     ∷ closingOf 48 (negℤ (pos 9)) (replicate 32 0) ∷ closingOf 49 (pos 30) (replicate 30 48 ++ 0 ∷ 0 ∷ [])
     ∷ closingOf (2 ^ 128 - 46) (pos 30) (replicate 30 70 ++ 0 ∷ 0 ∷ []) ∷ closingOf (2 ^ 128 - 45) (negℤ (pos 9)) (replicate 32 0) ∷ []
+
+-- Document 01's own marked closings, by the rule before slip 5.
+abbrev pub figuresBefore : List Figure
+figuresBefore =
+    closedBefore 49 (negℤ (pos 9)) ∷ closedBefore 50 (pos 30) ∷ closedBefore (2 ^ 128 - 51) (pos 30) ∷ closedBefore (2 ^ 128 - 50) (negℤ (pos 9)) ∷ []
 
 -- Check runs: the first terms of the four rows at position 1, a term with odd k that keeps its row's sign, the last terms whose size is not 0,
 -- K at the first and the last position, a and b at the first, and the closings at their edges.
