@@ -233,10 +233,12 @@ int64_t bbp_check_sheet_post(uint8_t *ledger, size_t ledger_len, const uint8_t *
  * Answers d, or refusal 1 (ledger_len not BBP_LEDGER_SIZE, digits_len not 32),
  * 5, 8 or 9.
  *
- * The digits are the first ones that total - b - 1 and total + a + 1 share. A
- * term is charged if its exponent E is 0 or more; a is the number of added
- * charged terms and b of subtracted ones, over all rows, and the one unit more
- * on each side covers all other terms (docs/FORMATS.md, section 7). Versions
+ * Settled are the digits that total - b - 1 and total + a + 1, written with 32
+ * hexadecimal digits each, share at the front; refusal 9 where these are none,
+ * or where the one is below 0 or the other 2^128 or more. A term is charged if
+ * its exponent E is 0 or more; a is the number of added charged terms and b of
+ * subtracted ones, over all rows, and the one unit more on each side covers all
+ * other terms (docs/FORMATS.md, section 7). Versions
  * before 3.0.0 charged terms with E below 0 as well: this version gives at least
  * the digits that version 2.2.0 gave of the same ledger, of some ledgers more,
  * and it settles some that were refused with 9.

@@ -17,9 +17,14 @@ use Rattle.closing.specs.Closing.{closingAnswer, closingBytes, closeAnsw
 
 module _ (F : Formula) (s : Plain) (good : Good (limitsOf F) s) (out : List ℕ) where
   -- by whatever rule terms are charged
-  pub answer-by : (R : Rule) → closingAnswer R F (viewOf (limitsOf F) (encode (limitsOf F) s)) (totalIn (limitsOf F) (encode (limitsOf F) s)) out
-      ≡ closingAnswer R F (plainView s) (totalOf (limitsOf F) (s .sums)) out
-  answer-by R = ap₂ (λ (v : View) (t : ℕ). closingAnswer R F v t out) (view-encode (limitsOf F) s good) (total-encode (limitsOf F) s good)
+  module _ (R : Rule) where
+    pub answer-by : closingAnswer R F (viewOf (limitsOf F) (encode (limitsOf F) s)) (totalIn (limitsOf F) (encode (limitsOf F) s)) out
+        ≡ closingAnswer R F (plainView s) (totalOf (limitsOf F) (s .sums)) out
+    answer-by = ap₂ (λ (v : View) (t : ℕ). closingAnswer R F v t out) (view-encode (limitsOf F) s good) (total-encode (limitsOf F) s good)
+
+    pub bytes-by : closingBytes R F (viewOf (limitsOf F) (encode (limitsOf F) s)) (totalIn (limitsOf F) (encode (limitsOf F) s)) out
+        ≡ closingBytes R F (plainView s) (totalOf (limitsOf F) (s .sums)) out
+    bytes-by = ap₂ (λ (v : View) (t : ℕ). closingBytes R F v t out) (view-encode (limitsOf F) s good) (total-encode (limitsOf F) s good)
 
   pub answer-encoded : closeAnswer F (encode (limitsOf F) s) out ≡ closingAnswer isCharged F (plainView s) (totalOf (limitsOf F) (s .sums)) out
   unfolding closeAnswer
@@ -27,8 +32,7 @@ module _ (F : Formula) (s : Plain) (good : Good (limitsOf F) s) (out : List ℕ)
 
   pub bytes-encoded : closeBytes F (encode (limitsOf F) s) out ≡ closingBytes isCharged F (plainView s) (totalOf (limitsOf F) (s .sums)) out
   unfolding closeBytes
-  bytes-encoded =
-      ap₂ (λ (v : View) (t : ℕ). closingBytes isCharged F v t out) (view-encode (limitsOf F) s good) (total-encode (limitsOf F) s good)
+  bytes-encoded = bytes-by isCharged
 
 -- a ledger with every ticket of p = 1, C = 1 marked is a plain ledger's, whatever its sums
 pub good-full : (f : Series) (sums : ℕ → ℕ) → ((row : ℕ) → sums row < modulus)

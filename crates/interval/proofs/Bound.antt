@@ -3,7 +3,7 @@
 use mathlib.Core.Path.{_≡_, ap, _∙_, subst}
 use mathlib.Core.Bool.{Bool, true, false, cond}
 use mathlib.Core.List.{List·Memᴰ}
-use Prim.Native.Nat.{ℕ, _+_, _*_, _-_, _/_, _^_, _≤_, _<_}
+use Prim.Native.Nat.{ℕ, _+_, _*_, _/_, _^_, _≤_, _<_}
 use native.Mathlib.Nat.{mod-add-div, mul-pos, add-zero}
 use native.Mathlib.Omega.{arith}
 use lib.Pow.{pow-pos}
@@ -20,7 +20,7 @@ carry F p r k = floorOf F p r k / modulus
 at-least : (a x : ℕ) → x ≤ a + x
 at-least a x = omega arith
 
-module _ (R : Rule) (F : Formula) (p : ℕ) (positive : Positive F) where
+module _ (F : Formula) (p : ℕ) (positive : Positive F) where
   parts : (r : Row) → List·Memᴰ r (F .rows) → (k : ℕ) → size F p r k + modulus * carry F p r k ≡ floorOf F p r k
   unfolding Positive
   parts r m k = ap (λ (x : ℕ). x + modulus * carry F p r k) (size-floor F p r k (positive r m k)) ∙ mod-add-div (floorOf F p r k) modulus
@@ -31,9 +31,9 @@ module _ (R : Rule) (F : Formula) (p : ℕ) (positive : Positive F) where
     term-low r m k l u =
         rw (parts r m k) (quotient-low (2 ^ rise p r) (divisor r k * 2 ^ fall F k) D (mul-pos (positive r m k) (pow-pos (fall F k))) (whole r m k (omega arith)))
 
-    term-high : (r : Row) → List·Memᴰ r (F .rows) → (k : ℕ) → 0 ≤ k → k < 0 + K → exactTimes F p D r k ≤ D * (size F p r k + modulus * carry F p r k + cond (R F p r k) 1 0) + unchargedTimes R F p D r k
+    term-high : (R : Rule) (r : Row) → List·Memᴰ r (F .rows) → (k : ℕ) → 0 ≤ k → k < 0 + K → exactTimes F p D r k ≤ D * (size F p r k + modulus * carry F p r k + cond (R F p r k) 1 0) + unchargedTimes R F p D r k
     unfolding MakesWhole Positive exactTimes unchargedTimes
-    term-high r m k l u = go (R F p r k)
+    term-high R r m k l u = go (R F p r k)
       where
         x : ℕ
         x = exactTimes F p D r k
@@ -52,10 +52,10 @@ module _ (R : Rule) (F : Formula) (p : ℕ) (positive : Positive F) where
         (e₁ ∙ ap (λ (x : ℕ). D * x) (e₂ ∙ ap (λ (x : ℕ). sideSum F side (size F p) 0 K + x) e₃))
         (side-le F side (λ r k. D * (size F p r k + modulus * carry F p r k)) (exactTimes F p D) 0 K term-low)
 
-    pub head-high : (side : Side)
+    pub head-high : (R : Rule) (side : Side)
         → sideSum F side (exactTimes F p D) 0 K ≤ D * (sideSum F side (size F p) 0 K + modulus * sideSum F side (carry F p) 0 K + charges R F side p K) + sideSum F side (unchargedTimes R F p D) 0 K
     unfolding charges
-    head-high side =
+    head-high R side =
         let one : Row → ℕ → ℕ = λ r k. cond (R F p r k) 1 0 in
         let e₀ = side-add F side (λ r k. D * (size F p r k + modulus * carry F p r k + one r k)) (unchargedTimes R F p D) 0 K in
         let e₁ = side-mul F side D (λ r k. size F p r k + modulus * carry F p r k + one r k) 0 K in
@@ -65,7 +65,7 @@ module _ (R : Rule) (F : Formula) (p : ℕ) (positive : Positive F) where
         subst (λ (x : ℕ). sideSum F side (exactTimes F p D) 0 K ≤ x)
         (e₀ ∙ ap (λ (y : ℕ). y + sideSum F side (unchargedTimes R F p D) 0 K) (e₁ ∙ ap (λ (x : ℕ). D * x)
         (e₂ ∙ ap (λ (x : ℕ). x + sideSum F side one 0 K) (e₃ ∙ ap (λ (x : ℕ). sideSum F side (size F p) 0 K + x) e₄))))
-        (side-le F side (exactTimes F p D) (λ r k. D * (size F p r k + modulus * carry F p r k + one r k) + unchargedTimes R F p D r k) 0 K term-high)
+        (side-le F side (exactTimes F p D) (λ r k. D * (size F p r k + modulus * carry F p r k + one r k) + unchargedTimes R F p D r k) 0 K (term-high R))
 
 -- The two ends in plain numbers: X⁺ and X⁻ are the exact sums of the two sides, H and T their parts below and from K on, V the
 -- uncharged terms, Q⁺ and Q⁻ the sums of the sizes, c⁺ and c⁻ the carries.

@@ -16,18 +16,17 @@ use Rattle.interval.specs.Counts.{chargedIn}
 use Rattle.series.proofs.Sides.{row-ext, row-none, row-split, over-le, over-ext, over-add, over-mul}
 use Rattle.interval.proofs.Charged.{charged, uncharged, first-below}
 
--- a geometric bound: S falls behind D by D at each power
-module _ (β D : ℕ) (S s : ℕ → ℕ) (first : S 0 ≡ 0) (next : (c : ℕ) → S (suc c) ≡ S c + s c)
-    (small : (c : ℕ) → s c * β ^ c * β + D ≤ D * β) where
-  geometric : (c : ℕ) → β ^ c * S c + D ≤ D * β ^ c
-  geometric zero = rw first (omega (arith, ap (λ (x : ℕ). D * x) (pow-zero β)))
-  geometric (suc c) =
-      let h = mul-le-mul-left β (geometric c) in
+-- where each s c is at most half of D / 2 ^ c, their sums S c fall behind D by at least D / 2 ^ c
+module _ (D : ℕ) (S s : ℕ → ℕ) (first : S 0 ≡ 0) (next : (c : ℕ) → S (suc c) ≡ S c + s c) (small : (c : ℕ) → s c * 2 ^ c * 2 ≤ D) where
+  behind : (c : ℕ) → 2 ^ c * S c + D ≤ D * 2 ^ c
+  behind zero = rw first (omega (arith, ap (λ (x : ℕ). D * x) (pow-zero 2)))
+  behind (suc c) =
+      let h = behind c in
       let k = small c in
       rw (next c, pow-suc) (omega (arith, h, k))
 
-  geometric-below : 0 < D → (c : ℕ) → S c < D
-  geometric-below d c = lt-of-mul-lt-mul-left (β ^ c) (let h = geometric c in omega (arith, h))
+  stays-below : 0 < D → (c : ℕ) → S c < D
+  stays-below d c = lt-of-mul-lt-mul-left (2 ^ c) (let h = behind c in omega (arith, h))
 
 -- ---- one row
 
@@ -66,10 +65,10 @@ module _ (F : Formula) (p : ℕ) (r : Row) (step : 0 < F .step) where
   row-below D side count d =
       let c = chargedIn F p r in
       let x : ℕ → ℕ = λ k. cond (onSide F side r k) (exactTimes F p D r k) 0 in
-      geometric-below 2 D (λ i. least * sum x c i) (λ i. least * x (c + i)) (mul-zero least) (λ i. mul-add least (sum x c i) (x (c + i)))
+      stays-below D (λ i. least * sum x c i) (λ i. least * x (c + i)) (mul-zero least) (λ i. mul-add least (sum x c i) (x (c + i)))
       (λ i. on (onSide F side r (c + i)) (exactTimes F p D r (c + i)) least (2 ^ i) D (small D i)) d count
     where
-      on : (b : Bool) (x w t D : ℕ) → w * x * t * 2 ≤ D → w * cond b x 0 * t * 2 + D ≤ D * 2
+      on : (b : Bool) (x w t D : ℕ) → w * x * t * 2 ≤ D → w * cond b x 0 * t * 2 ≤ D
       on true x w t D h = omega (arith, h)
       on false x w t D h = omega arith
 

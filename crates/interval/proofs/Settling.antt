@@ -55,8 +55,8 @@ module _ (R : Rule) (F : Formula) (p K : ℕ) (positive : Positive F) (tail : Re
       let c⁻ = sideSum F minus (carry F p) 0 K in
       let a = charges R F plus p K in
       let b = charges R F minus p K in
-      let l = head-low R F p positive D K w in
-      let u = head-high R F p positive D K w in
+      let l = head-low F p positive D K w in
+      let u = head-high F p positive D K w R in
       record {
         y = back modulus q + c⁺;
         z = turns modulus q + c⁻;

@@ -1,11 +1,10 @@
--- Checks of the two formulas' rows against what is known: the digits of pi at position 1, and a count of terms that leaves only small ones.
+-- A check of the two formulas' rows against what is known: the digits of pi at position 1.
 -- Assumes nothing.
 use mathlib.Core.Path.{_≡_, refl}
-use Prim.Native.Nat.{ℕ, _+_, _*_, _/_, _^_, _<_}
-use native.Mathlib.Nat.{lt-mul-div-succ}
+use Prim.Native.Nat.{_/_, _^_}
 use Rattle.algebra.specs.Sum.{sum}
 use Rattle.algebra.specs.Whole.{residue}
-use Rattle.series.specs.Series.{Formula, skipped, size, isAdded, termCount, onSide, rowSum, overRows, sideSum, sizesSum}
+use Rattle.series.specs.Series.{size, isAdded, termCount, onSide, rowSum, overRows, sideSum, sizesSum}
 use Rattle.series.specs.Names.{formulaOf}
 use Rattle.series.specs.declared.Series.{Series}
 use Rattle.series.specs.declared.Series.the-variants.{Bellard, Check}
@@ -15,8 +14,3 @@ pub known-digits : (f : Series) → sizesSum (formulaOf f) 1 (termCount (formula
 unfolding sizesSum termCount size sideSum overRows rowSum sum onSide isAdded residue
 known-digits Bellard = refl
 known-digits Check = refl
-
--- term K of every row has E below -2
-pub count-enough : (F : Formula) (p : ℕ) → 0 < F .step → 4 * skipped p + 130 < F .step * termCount F p
-unfolding termCount
-count-enough F p s = lt-mul-div-succ (4 * skipped p + 130) s

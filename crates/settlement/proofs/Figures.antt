@@ -18,57 +18,56 @@ use Rattle.series.specs.Check.{check}
 use Rattle.series.specs.Names.{formulaOf}
 use Rattle.series.specs.declared.Series.{Series}
 use Rattle.series.specs.declared.Series.the-variants.{Bellard, Check}
-use Rattle.interval.specs.Interval.{isCharged, everyTerm, charges, low, high}
+use Rattle.interval.specs.Interval.{Rule, isCharged, everyTerm, charges, low, high}
 use Rattle.interval.specs.Digits.{settledUpTo, settled, hexDigit, hexText, lowDigits}
 use Rattle.run.specs.Refusal.{refusal, answer}
 use Rattle.run.specs.Run.{limitsOf, isTicket}
-use Rattle.ledger.specs.Ledger.{totalOf}
+use Rattle.ledger.specs.Ledger.{viewOf, totalOf, totalIn}
 use Rattle.ledger.specs.Plain.{Plain, plainView, fullPlain, fullLedger}
 use Rattle.closing.specs.Closing.{settledAt, digitsAt, closeRefusal, closingAnswer, closingBytes, closeAnswer, closeBytes}
-use Rattle.closing.proofs.Encoded.{good-full, answer-by, answer-encoded, bytes-encoded}
-use Rattle.settlement.specs.EveryTerm.{answerBefore}
-use Rattle.settlement.specs.Figures.{figures, figuresBefore, checkFigures, Holds, AllHold, inRow, Spreads}
+use Rattle.closing.proofs.Encoded.{good-full, answer-by, bytes-by}
+use Rattle.settlement.specs.Figures.{figures, figuresBefore, checkFigures, checkFiguresBefore, Holds, AllHold, inRow, Spreads}
 
 -- the closing of a full ledger is by the total of its sums
 module _ (f : Series) (sums : ℕ → ℕ) (fit : (row : ℕ) → sums row < modulus) where
   abbrev full : Plain
   full = fullPlain (limitsOf (formulaOf f)) sums
 
-  full-closing : (total : ℕ) (a : ℤ) (digits : List ℕ) → totalOf (limitsOf (formulaOf f)) sums ≡ total
-      → closingAnswer isCharged (formulaOf f) (plainView full) total (replicate 32 0) ≡ a
-      → closingBytes isCharged (formulaOf f) (plainView full) total (replicate 32 0) ≡ digits
-      → (closeAnswer (formulaOf f) (fullLedger (limitsOf (formulaOf f)) sums) (replicate 32 0) ≡ a)
-      × (closeBytes (formulaOf f) (fullLedger (limitsOf (formulaOf f)) sums) (replicate 32 0) ≡ digits)
+  abbrev ledger : List ℕ
+  ledger = fullLedger (limitsOf (formulaOf f)) sums
+
+  full-closing : (R : Rule) (total : ℕ) (a : ℤ) (digits : List ℕ) → totalOf (limitsOf (formulaOf f)) sums ≡ total
+      → closingAnswer R (formulaOf f) (plainView full) total (replicate 32 0) ≡ a
+      → closingBytes R (formulaOf f) (plainView full) total (replicate 32 0) ≡ digits
+      → (closingAnswer R (formulaOf f) (viewOf (limitsOf (formulaOf f)) ledger) (totalIn (limitsOf (formulaOf f)) ledger) (replicate 32 0) ≡ a)
+      × (closingBytes R (formulaOf f) (viewOf (limitsOf (formulaOf f)) ledger) (totalIn (limitsOf (formulaOf f)) ledger) (replicate 32 0) ≡ digits)
   unfolding fullLedger
-  full-closing total a digits e k g = (
-    answer-encoded (formulaOf f) full (good-full f sums fit) (replicate 32 0)
-        ∙ ap (λ (n : ℕ). closingAnswer isCharged (formulaOf f) (plainView full) n (replicate 32 0)) e ∙ k,
-    bytes-encoded (formulaOf f) full (good-full f sums fit) (replicate 32 0)
-        ∙ ap (λ (n : ℕ). closingBytes isCharged (formulaOf f) (plainView full) n (replicate 32 0)) e ∙ g,
+  full-closing R total a digits e k g = (
+    answer-by (formulaOf f) full (good-full f sums fit) (replicate 32 0) R
+        ∙ ap (λ (n : ℕ). closingAnswer R (formulaOf f) (plainView full) n (replicate 32 0)) e ∙ k,
+    bytes-by (formulaOf f) full (good-full f sums fit) (replicate 32 0) R
+        ∙ ap (λ (n : ℕ). closingBytes R (formulaOf f) (plainView full) n (replicate 32 0)) e ∙ g,
   )
 
-  full-before : (total : ℕ) (a : ℤ) → totalOf (limitsOf (formulaOf f)) sums ≡ total
-      → closingAnswer everyTerm (formulaOf f) (plainView full) total (replicate 32 0) ≡ a
-      → answerBefore (formulaOf f) (fullLedger (limitsOf (formulaOf f)) sums) (replicate 32 0) ≡ a
-  unfolding fullLedger
-  full-before total a e k =
-      answer-by (formulaOf f) full (good-full f sums fit) (replicate 32 0) everyTerm
-      ∙ ap (λ (n : ℕ). closingAnswer everyTerm (formulaOf f) (plainView full) n (replicate 32 0)) e ∙ k
-
 pub figures-hold : AllHold bellard figures
-unfolding AllHold Holds plainView size termCount closingAnswer closingBytes closeRefusal refusal answer settledAt digitsAt settled settledUpTo low high sameℤ allBelow isTicket charges sideSum overRows rowSum sum onSide isAdded isCharged lowDigits hexText hexDigit residue
+unfolding AllHold Holds plainView size termCount closeAnswer closeBytes closingAnswer closingBytes closeRefusal refusal answer settledAt digitsAt settled settledUpTo low high sameℤ allBelow isTicket charges sideSum overRows rowSum sum onSide isAdded isCharged lowDigits hexText hexDigit residue
 figures-hold =
-    (refl, (refl, (refl, (refl, (refl, ((refl, refl), ((refl, refl), (refl, (refl, (refl, (refl, ((refl, refl), (λ sums fit e. full-closing Bellard sums fit _ _ _ e refl refl, (λ sums fit e. full-closing Bellard sums fit _ _ _ e refl refl, (λ sums fit e. full-closing Bellard sums fit _ _ _ e refl refl, (λ sums fit e. full-closing Bellard sums fit _ _ _ e refl refl, tt))))))))))))))))
+    (refl, (refl, (refl, (refl, (refl, ((refl, refl), ((refl, refl), (refl, (refl, (refl, (refl, ((refl, refl), (λ sums fit e. full-closing Bellard sums fit isCharged _ _ _ e refl refl, (λ sums fit e. full-closing Bellard sums fit isCharged _ _ _ e refl refl, (λ sums fit e. full-closing Bellard sums fit isCharged _ _ _ e refl refl, (λ sums fit e. full-closing Bellard sums fit isCharged _ _ _ e refl refl, tt))))))))))))))))
 
 pub figures-before-hold : AllHold bellard figuresBefore
-unfolding AllHold Holds plainView termCount closingAnswer closeRefusal refusal answer settledAt settled settledUpTo low high sameℤ allBelow isTicket charges sideSum overRows rowSum sum onSide isAdded everyTerm
+unfolding AllHold Holds plainView termCount closeAnswer closeBytes closingAnswer closingBytes closeRefusal refusal answer settledAt digitsAt settled settledUpTo low high sameℤ allBelow isTicket charges sideSum overRows rowSum sum onSide isAdded isCharged everyTerm lowDigits hexText hexDigit residue
 figures-before-hold =
-    (λ sums fit e. full-before Bellard sums fit _ _ e refl, (λ sums fit e. full-before Bellard sums fit _ _ e refl, (λ sums fit e. full-before Bellard sums fit _ _ e refl, (λ sums fit e. full-before Bellard sums fit _ _ e refl, tt))))
+    (λ sums fit e. full-closing Bellard sums fit everyTerm _ _ _ e refl refl, (λ sums fit e. full-closing Bellard sums fit everyTerm _ _ _ e refl refl, (λ sums fit e. full-closing Bellard sums fit everyTerm _ _ _ e refl refl, (λ sums fit e. full-closing Bellard sums fit everyTerm _ _ _ e refl refl, (λ sums fit e. full-closing Bellard sums fit everyTerm _ _ _ e refl refl, (λ sums fit e. full-closing Bellard sums fit isCharged _ _ _ e refl refl, tt))))))
+
+pub check-figures-before-hold : AllHold check checkFiguresBefore
+unfolding AllHold Holds plainView termCount closeAnswer closeBytes closingAnswer closingBytes closeRefusal refusal answer settledAt digitsAt settled settledUpTo low high sameℤ allBelow isTicket charges sideSum overRows rowSum sum onSide isAdded isCharged everyTerm lowDigits hexText hexDigit residue
+check-figures-before-hold =
+    (λ sums fit e. full-closing Check sums fit everyTerm _ _ _ e refl refl, (λ sums fit e. full-closing Check sums fit everyTerm _ _ _ e refl refl, (λ sums fit e. full-closing Check sums fit isCharged _ _ _ e refl refl, tt)))
 
 pub check-figures-hold : AllHold check checkFigures
-unfolding AllHold Holds plainView size termCount closingAnswer closingBytes closeRefusal refusal answer settledAt digitsAt settled settledUpTo low high sameℤ allBelow isTicket charges sideSum overRows rowSum sum onSide isAdded isCharged lowDigits hexText hexDigit residue
+unfolding AllHold Holds plainView size termCount closeAnswer closeBytes closingAnswer closingBytes closeRefusal refusal answer settledAt digitsAt settled settledUpTo low high sameℤ allBelow isTicket charges sideSum overRows rowSum sum onSide isAdded isCharged lowDigits hexText hexDigit residue
 check-figures-hold =
-    ((refl, refl), ((refl, refl), ((refl, refl), ((refl, refl), ((refl, refl), ((refl, refl), (refl, (refl, (refl, (refl, ((refl, refl), (λ sums fit e. full-closing Check sums fit _ _ _ e refl refl, (λ sums fit e. full-closing Check sums fit _ _ _ e refl refl, (λ sums fit e. full-closing Check sums fit _ _ _ e refl refl, (λ sums fit e. full-closing Check sums fit _ _ _ e refl refl, tt)))))))))))))))
+    ((refl, refl), ((refl, refl), ((refl, refl), ((refl, refl), ((refl, refl), ((refl, refl), (refl, (refl, (refl, (refl, ((refl, refl), (λ sums fit e. full-closing Check sums fit isCharged _ _ _ e refl refl, (λ sums fit e. full-closing Check sums fit isCharged _ _ _ e refl refl, (λ sums fit e. full-closing Check sums fit isCharged _ _ _ e refl refl, (λ sums fit e. full-closing Check sums fit isCharged _ _ _ e refl refl, tt)))))))))))))))
 
 -- ---- sums with a given total
 

@@ -3,7 +3,7 @@
 use mathlib.Core.Bool.{Bool, true, false, cond}
 use mathlib.Core.Path.{_≡_}
 use mathlib.Core.List.{List, [], _∷_, _++_}
-use Prim.Native.Nat.{ℕ, _-_, _+_, _^_, _<_}
+use Prim.Native.Nat.{ℕ, _-_, _^_, _<_}
 use lib.Dec.{eqb}
 use lib.IntN.{ℤ, pos, negℤ}
 use lib.ListN.{getD, take, replicate}
@@ -16,7 +16,7 @@ use Rattle.ledger.specs.Ledger.{totalOf}
 use Rattle.ledger.specs.Plain.{fullLedger}
 use Rattle.closing.specs.Closing.{closeAnswer, closeBytes}
 use Rattle.settlement.specs.Settlement.{ClosesWith}
-use Rattle.settlement.specs.EveryTerm.{answerBefore}
+use Rattle.settlement.specs.EveryTerm.{answerBefore, bytesBefore}
 
 -- A figure, with what the document gives for it.
 pub data Figure : Type 0 where
@@ -30,8 +30,8 @@ pub data Figure : Type 0 where
   chargesAt : ℕ → ℕ → ℕ → Figure
   -- what closing answers, and what 32 zero bytes become: p = 1, C = 1, all marked, with sums of the rows, any at all, that have this total
   closingOf : ℕ → ℤ → List ℕ → Figure
-  -- what closing such a ledger answered while every term was charged
-  closedBefore : ℕ → ℤ → Figure
+  -- the same while every term was charged
+  closedBefore : ℕ → ℤ → List ℕ → Figure
 
 unfoldable pub Holds : Formula → Figure → Type 0
 Holds F (sizeOf p row k q) = size F p (rowAt F row) k ≡ q
@@ -42,9 +42,10 @@ Holds F (closingOf total a digits) =
     (sums : ℕ → ℕ) → ((row : ℕ) → sums row < modulus) → totalOf (limitsOf F) sums ≡ total
     → (closeAnswer F (fullLedger (limitsOf F) sums) (replicate 32 0) ≡ a)
     × (closeBytes F (fullLedger (limitsOf F) sums) (replicate 32 0) ≡ digits)
-Holds F (closedBefore total a) =
+Holds F (closedBefore total a digits) =
     (sums : ℕ → ℕ) → ((row : ℕ) → sums row < modulus) → totalOf (limitsOf F) sums ≡ total
-    → answerBefore F (fullLedger (limitsOf F) sums) (replicate 32 0) ≡ a
+    → (answerBefore F (fullLedger (limitsOf F) sums) (replicate 32 0) ≡ a)
+    × (bytesBefore F (fullLedger (limitsOf F) sums) (replicate 32 0) ≡ digits)
 
 unfoldable pub AllHold : Formula → List Figure → Type 0
 AllHold F [] = Unit {0}
@@ -60,10 +61,12 @@ figures =
     ∷ closingOf 48 (negℤ (pos 9)) (replicate 32 0) ∷ closingOf 49 (pos 30) (replicate 30 48 ++ 0 ∷ 0 ∷ [])
     ∷ closingOf (2 ^ 128 - 46) (pos 30) (replicate 30 70 ++ 0 ∷ 0 ∷ []) ∷ closingOf (2 ^ 128 - 45) (negℤ (pos 9)) (replicate 32 0) ∷ []
 
--- Document 01's own marked closings, by the rule before slip 5.
+-- Document 01's own marked closings, by the rule before slip 5; and a ledger that has a digit more since.
 abbrev pub figuresBefore : List Figure
 figuresBefore =
-    closedBefore 49 (negℤ (pos 9)) ∷ closedBefore 50 (pos 30) ∷ closedBefore (2 ^ 128 - 51) (pos 30) ∷ closedBefore (2 ^ 128 - 50) (negℤ (pos 9)) ∷ []
+    closedBefore 49 (negℤ (pos 9)) (replicate 32 0) ∷ closedBefore 50 (pos 30) (replicate 30 48 ++ 0 ∷ 0 ∷ [])
+    ∷ closedBefore (2 ^ 128 - 51) (pos 30) (replicate 30 70 ++ 0 ∷ 0 ∷ []) ∷ closedBefore (2 ^ 128 - 50) (negℤ (pos 9)) (replicate 32 0)
+    ∷ closedBefore 305 (pos 29) (replicate 29 48 ++ 0 ∷ 0 ∷ 0 ∷ []) ∷ closingOf 305 (pos 30) (replicate 29 48 ++ 49 ∷ 0 ∷ 0 ∷ []) ∷ []
 
 -- Check runs: the first terms of the four rows at position 1, a term with odd k that keeps its row's sign, the last terms whose size is not 0,
 -- K at the first and the last position, a and b at the first, and the closings at their edges.
@@ -75,6 +78,12 @@ checkFigures =
     ∷ chargesAt 1 33 97
     ∷ closingOf 97 (negℤ (pos 9)) (replicate 32 0) ∷ closingOf 98 (pos 30) (replicate 30 48 ++ 0 ∷ 0 ∷ [])
     ∷ closingOf (2 ^ 128 - 35) (pos 30) (replicate 30 70 ++ 0 ∷ 0 ∷ []) ∷ closingOf (2 ^ 128 - 34) (negℤ (pos 9)) (replicate 32 0) ∷ []
+
+-- A check ledger that was refused, and one that has a digit more.
+abbrev pub checkFiguresBefore : List Figure
+checkFiguresBefore =
+    closedBefore 99 (negℤ (pos 9)) (replicate 32 0) ∷ closedBefore 355 (pos 29) (replicate 29 48 ++ 0 ∷ 0 ∷ 0 ∷ [])
+    ∷ closingOf 355 (pos 30) (replicate 29 48 ++ 49 ∷ 0 ∷ 0 ∷ []) ∷ []
 
 -- 243F6A8885A308D313198A2E037073, the first thirty hexadecimal digits of pi after the point
 abbrev pub firstDigits : List ℕ
