@@ -238,10 +238,10 @@ int64_t bbp_check_sheet_post(uint8_t *ledger, size_t ledger_len, const uint8_t *
  * or where the one is below 0 or the other 2^128 or more. A term is charged if
  * its exponent E is 0 or more; a is the number of added charged terms and b of
  * subtracted ones, over all rows, and the one unit more on each side covers all
- * other terms (docs/FORMATS.md, section 7). Versions
- * before 3.0.0 charged terms with E below 0 as well: this version gives at least
- * the digits that version 2.2.0 gave of the same ledger, of some ledgers more,
- * and it settles some that were refused with 9.
+ * other terms (docs/FORMATS.md, section 7). Versions before 3.0.0 charged terms
+ * with E below 0 as well: this version gives at least the digits that version
+ * 2.2.0 gave of the same ledger, of some ledgers more, and it settles some that
+ * were refused with 9.
  *
  * A ledger of 256 bytes, as version 1.0.0 kept it, is closed with the closing
  * program of that version. The closing program is for ledgers of Bellard's
