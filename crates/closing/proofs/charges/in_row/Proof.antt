@@ -5,7 +5,7 @@ use mathlib.Core.Bool.{Bool, true, false, Bool·beq, cond, not}
 use Prim.Native.Nat.{ℕ, _+_, _/_, _^_, _≤_, _<_}
 use native.Mathlib.Omega.{arith}
 use borrow.Author.Needs.{needs}
-use Rattle.series.specs.Series.{Formula, Row, rowCount, rowAt, rise, isAdded, onSide, plus, minus}
+use Rattle.series.specs.Series.{Formula, Row, rowCount, rowAt, isAdded, onSide, plus, minus}
 use Rattle.series.specs.Fitting.{Position}
 use Rattle.series.specs.Names.{formulaOf, numbersOf}
 use Rattle.series.specs.declared.Series.{Series}
