@@ -1,4 +1,4 @@
-// Opening a ledger, and posting a ticket or a sheet to it.
+// Opening a ledger, posting a ticket or a sheet to it, and looking at a sheet before it is posted.
 use crate::answers::to_c;
 use series::Series;
 ghost use mathlib.Core.Path.{_≡_};
@@ -7,6 +7,7 @@ ghost use Rattle.series.specs.Check.{check};
 ghost use Rattle.run.specs.Run.{limitsOf};
 ghost use Rattle.ledger.specs.Calls.{openAnswer, openBytes, ticketAnswer, ticketBytes};
 ghost use Rattle.sheet.specs.Calls.{sheetAnswer, sheetBytes};
+ghost use Rattle.look.specs.Look.{lookAnswer, lookBytes};
 
 #[no_mangle]
 pub extern "C" fn bbp_open(p: u64, c: u64, ledger: &mut [u8]) -> i64
@@ -68,4 +69,13 @@ pub extern "C" fn bbp_check_sheet_post(ledger: &mut [u8], sheet: &[u8]) -> i64
     ensures leaves { λ _. ⌜ now (ledger .exit) ≡ sheetBytes (limitsOf check) (now (ledger .entry)) (now (sheet .entry)) ⌝ }
 {
     to_c(sheet::posting::post(Series::Check, ledger, sheet))
+}
+
+// For Bellard's runs alone.
+#[no_mangle]
+pub extern "C" fn bbp_look(ledger: &[u8], sheet: &[u8], total: &mut [u8]) -> i64
+    ensures answers { λ r. ⌜ r ≡ lookAnswer (limitsOf bellard) (now (ledger .entry)) (now (sheet .entry)) (now (total .entry)) ⌝ }
+    ensures leaves { λ _. ⌜ now (total .exit) ≡ lookBytes (limitsOf bellard) (now (ledger .entry)) (now (sheet .entry)) (now (total .entry)) ⌝ }
+{
+    to_c(look::look(Series::Bellard, ledger, sheet, total))
 }

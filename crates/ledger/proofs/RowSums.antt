@@ -13,7 +13,7 @@ use lib.Pow.{pow-pos}
 use lib.ListN.{length, getD, set, take, drop, replicate, replicate-append-replicate, length-append, take-append-drop}
 use lib.Seq.{length-take-le, take-at, drop-at, drop-append-add, drop-drop, getD-drop, getD-set-same, getD-set-other, take-set-le, drop-set-add}
 use Rattle.algebra.specs.Sum.{sum}
-use Rattle.algebra.proofs.Sums.{sum-ext, sum-zero, sum-split, sum-next}
+use Rattle.algebra.proofs.Sums.{sum-ext, sum-zero, sum-split, sum-next, sum-bump-rem}
 use Rattle.words.specs.Words.{joined}
 use Rattle.words.specs.declared.Wide.{Wide}
 use Rattle.words.specs.Bytes.{bytesOf, field, AllBytes}
@@ -277,6 +277,12 @@ total-held lim s v h held =
     sum-ext v (λ row. 0) (0 + R) (7 - R) (λ i l u. held i ∙ ap (λ (b : Bool). cond b (rowSumIn s i) 0) (le-ltb i R (omega arith))) in
     let none = sum-zero (λ row. 0) (0 + R) (7 - R) (λ i. refl) in
     ap (λ (n : ℕ). n % modulus) (ap (sum v 0) e ∙ sum-split v 0 R (7 - R) ∙ ap₂ _+_ low (rest ∙ none) ∙ add-zero (sum (rowSumIn s) 0 R))
+
+-- with x added to the sum of a row
+pub total-adding : (lim : Limits) (row x : ℕ) (v : ℕ → ℕ) → row < lim .rows → totalOf lim (adding row x v) ≡ (totalOf lim v + x) % modulus
+unfolding totalOf
+total-adding lim row x v h =
+    sum-bump-rem modulus v (adding row x v) (lim .rows) row x h (adding-here row x v) (λ i ne. sym (adding-else row x v i (λ e. ne (sym e))))
 
 -- ---- a ticket entered: the sums read, one changed, the mark set, the sums put back
 

@@ -47,9 +47,17 @@ pub finished : (number value : ℕ) → number ≡ 0 → pos value ≡ answer nu
 unfolding answer
 finished number value e = rw e refl
 
+pub negated : (n value : ℕ) → (n ≡ 0 → ⊥) → answer n value ≡ negℤ (pos n)
+unfolding answer
+negated zero value f = absurd (f refl)
+negated (suc n) value f = refl
+
 -- a buffer, and the bytes that it gets where the call is not refused
+pub stays : (number : ℕ) (new old : List ℕ) → (number ≡ 0 → ⊥) → cond (eqb number 0) new old ≡ old
+stays number new old f = rw (ne-eqb number 0 f) refl
+
 pub kept : (number n : ℕ) (new old : List ℕ) → number ≡ suc n → old ≡ cond (eqb number 0) new old
-kept number n new old e = rw (ne-eqb number 0 (λ z. omega arith)) refl
+kept number n new old e = sym (stays number new old (λ z. omega arith))
 
 pub changed : (number : ℕ) (new old : List ℕ) → number ≡ 0 → new ≡ cond (eqb number 0) new old
 changed number new old e = rw e refl
@@ -77,6 +85,13 @@ pub not-refused : (number value n : ℕ) → answer number value ≡ pos n → (
 unfolding answer
 not-refused zero value n e = (refl, cc)
 not-refused (suc m) value n e = absurd (let z : _≡_ {A = ℕ} 0 1 = cc in omega arith)
+
+-- one that answered a number negated was refused by it
+pub refused-by : (number value n : ℕ) → 0 < n → answer number value ≡ negℤ (pos n) → number ≡ n
+unfolding answer
+refused-by zero value n h e = absurd (below-zero n value h (sym e))
+refused-by (suc m) value zero h e = omega arith
+refused-by (suc m) value (suc n) h e = let q : m ≡ n = cc in ap suc q
 
 pub was-finished : (a : Answer) (v number value : ℕ) → a ≡ Finished v → answerOf a ≡ answer number value → (number ≡ 0) × (v ≡ value)
 was-finished a v number value f e =

@@ -15,6 +15,7 @@ use Rattle.ledger.specs.Calls.{openRefusal, ticketRefusal}
 use Rattle.sheet.specs.Calls.{writeRefusal, readRefusal, sheetRefusal}
 use Rattle.sheet.proofs.Many.{many-refused, many-listed}
 use Rattle.sheet.proofs.Singles.{sheet-as-singles}
+use Rattle.look.specs.Look.{lookRefusal}
 use Rattle.closing.specs.Closing.{closeRefusal}
 use Rattle.settlement.proofs.Halves.{halves-make-whole}
 use Rattle.settlement.specs.Refused.{Arguments}
@@ -40,8 +41,8 @@ module _ (F : Formula) (a : Arguments) where
   tables-ascend = refl
 
   first-of : FirstOf (tables F a)
-  unfolding FirstOf workRefusal openRefusal ticketRefusal writeRefusal readRefusal sheetRefusal closeRefusal
-  first-of = (refl, (refl, (refl, (refl, (refl, (refl, (refl, tt)))))))
+  unfolding FirstOf workRefusal openRefusal ticketRefusal writeRefusal readRefusal sheetRefusal lookRefusal closeRefusal
+  first-of = (refl, (refl, (refl, (refl, (refl, (refl, (refl, (refl, tt))))))))
 
 -- in a call's list the conditions of 3 and 4 stand third and fourth
 three-or-four : (t u : Test) (b c : Bool) (ts : List Test) → (b ≡ false) ⊎ (c ≡ false) → ThreeOrFour (t ∷ u ∷ (3 ⇐ not b) ∷ (4 ⇐ not c) ∷ ts)
@@ -53,6 +54,7 @@ too-many F = record {
   written = λ p C list out h. three-or-four _ _ _ _ _ (many-listed F (limitsOf F) p C list h);
   read = λ s list sums h. three-or-four _ _ _ _ _ (many-refused (limitsOf F) s h);
   posted = λ ledger s h. three-or-four _ _ _ _ _ (many-refused (limitsOf F) s h);
+  looked-at = λ ledger s total h. three-or-four _ _ _ _ _ (many-refused (limitsOf F) s h);
 }
 
 pub facts : (F : Formula) → F .last < 2 ^ 64 → Facts F

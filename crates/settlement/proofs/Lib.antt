@@ -8,6 +8,7 @@ pub mod Figures
 pub mod FirstDigits
 pub mod Agreement
 pub mod Halves
+pub mod Looks
 pub mod Facts
 pub mod Refused
 pub mod Runs

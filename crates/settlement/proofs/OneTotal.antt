@@ -8,7 +8,7 @@ use Prim.Native.Nat.{ℕ, _+_, _%_, _^_, _<_}
 use borrow.Author.Tests.{eqb-true}
 use lib.Dec.{eqb}
 use lib.IntN.{ℤ}
-use Rattle.algebra.proofs.Sums.{sum-zero, sum-bump-rem}
+use Rattle.algebra.proofs.Sums.{sum-zero}
 use Rattle.series.specs.Series.{Formula, modulus}
 use Rattle.interval.specs.Interval.{isCharged}
 use Rattle.run.specs.Refusal.{answer}
@@ -16,20 +16,13 @@ use Rattle.run.specs.Run.{Limits, limitsOf, inRange}
 use Rattle.run.proofs.Range.{ticket-row}
 use Rattle.ledger.specs.Ledger.{View, viewOf, ledgerSize, totalOf, totalIn}
 use Rattle.ledger.specs.Plain.{Plain, Entry, plainView, opened, admit, including, adding}
-use Rattle.ledger.proofs.RowSums.{adding-here, adding-else}
+use Rattle.ledger.proofs.RowSums.{total-adding}
 use Rattle.ledger.proofs.Image.{total-encode}
 use Rattle.sheet.specs.Posts.{Post, postRefusal, postEntries, plainPost, plainPosts, plainAnswer, plainAnswers}
 use Rattle.sheet.proofs.Simulation.{Ready, good-opened, posts-good, post-ready, ledger-is, answers-are}
 use Rattle.closing.specs.Closing.{closingAnswer, closingBytes, closeAnswer, closeBytes}
 use Rattle.closing.proofs.Encoded.{answer-encoded, bytes-encoded}
 use Rattle.settlement.specs.OneTotal.{OneTotal, oneOpened, oneView, oneAdmit, onePost, onePosts, oneAnswers, oneCloseAnswer, oneCloseBytes, SameAsOne, SameTotal, AsBefore}
-
--- ---- the total, with x added to the sum of a row
-
-total-adding : (lim : Limits) (row x : ℕ) (v : ℕ → ℕ) → row < lim .rows → totalOf lim (adding row x v) ≡ (totalOf lim v + x) % modulus
-unfolding totalOf
-total-adding lim row x v h =
-    sum-bump-rem modulus v (adding row x v) (lim .rows) row x h (adding-here row x v) (λ i ne. sym (adding-else row x v i (λ e. ne (sym e))))
 
 -- ---- the ledger with row sums, seen as one with a total
 

@@ -6,16 +6,17 @@ use mathlib.Core.Bool.{Bool, true, false, cond, _&&_}
 use mathlib.Core.List.{List, [], _∷_}
 use Prim.Native.Nat.{ℕ, zero, suc, _≤_}
 use native.Mathlib.Omega.{arith}
-use borrow.Author.Tests.{leb-true, ne-eqb}
+use borrow.Author.Tests.{leb-true}
 use lib.Dec.{eqb, leb}
 use lib.IntN.{pos, negℤ}
 use Rattle.algebra.proofs.Booleans.{and-left, and-right}
 use Rattle.series.specs.Series.{Formula}
 use Rattle.run.specs.Refusal.{Test, refusal, answer}
-use Rattle.run.proofs.Answering.{finished}
+use Rattle.run.proofs.Answering.{finished, negated, stays}
 use Rattle.ticket.specs.Work.{workRefusal, workAnswer, workBytes}
 use Rattle.ledger.specs.Calls.{openRefusal, openAnswer, openBytes, ticketRefusal, ticketAnswer, ticketBytes}
 use Rattle.sheet.specs.Calls.{writeRefusal, writeAnswer, writeBytes, readRefusal, readAnswer, readList, readSums, sheetRefusal, sheetAnswer, sheetBytes}
+use Rattle.look.specs.Look.{lookRefusal, lookAnswer, lookBytes}
 use Rattle.closing.specs.Closing.{closeRefusal, closingAnswer, closingBytes, closeAnswer, closeBytes}
 use Rattle.settlement.specs.Refused.{Slice, slice, call, AllKept, Answered, AllAnswered, Demand1}
 
@@ -34,15 +35,6 @@ at-most-nine (t ∷ ts) e =
     go true h l = h
     go false h l = l
 
-negated : (n value : ℕ) → (n ≡ 0 → ⊥) → answer n value ≡ negℤ (pos n)
-unfolding answer
-negated zero value f = absurd (f refl)
-negated (suc n) value f = refl
-
--- a slice that changes only where the number is 0
-kept : (n : ℕ) (new old : List ℕ) → (n ≡ 0 → ⊥) → cond (eqb n 0) new old ≡ old
-kept n new old f = rw (ne-eqb n 0 f) refl
-
 answered : (ts : List Test) (value : ℕ) (slices : List Slice) → upToNine ts ≡ true → ((refusal ts ≡ 0 → ⊥) → AllKept slices)
     → Answered (call (refusal ts) (answer (refusal ts) value) slices)
 answered ts value slices e k = record {
@@ -53,11 +45,11 @@ answered ts value slices e k = record {
 
 one-kept : (n : ℕ) (new old : List ℕ) → (n ≡ 0 → ⊥) → AllKept (slice old (cond (eqb n 0) new old) ∷ [])
 unfolding AllKept
-one-kept n new old f = (kept n new old f, tt)
+one-kept n new old f = (stays n new old f, tt)
 
 -- Demand 1
 pub demand1 : (F : Formula) → Demand1 F
-unfolding AllAnswered AllKept upToNine workRefusal workAnswer workBytes openRefusal openAnswer openBytes ticketRefusal ticketAnswer ticketBytes writeRefusal writeAnswer writeBytes readRefusal readAnswer readList readSums sheetRefusal sheetAnswer sheetBytes closeRefusal closingAnswer closingBytes closeAnswer closeBytes
+unfolding AllAnswered AllKept upToNine workRefusal workAnswer workBytes openRefusal openAnswer openBytes ticketRefusal ticketAnswer ticketBytes writeRefusal writeAnswer writeBytes readRefusal readAnswer readList readSums sheetRefusal sheetAnswer sheetBytes lookRefusal lookAnswer lookBytes closeRefusal closingAnswer closingBytes closeAnswer closeBytes
 demand1 F a = (
   answered _ _ _ refl (one-kept _ _ _),
   (
@@ -71,8 +63,8 @@ demand1 F a = (
           (
             answered _ _ _ refl (one-kept _ _ _),
             (
-              answered _ _ _ refl (λ f. (kept _ _ _ f, (kept _ _ _ f, tt))),
-              (answered _ _ _ refl (one-kept _ _ _), (answered _ _ _ refl (one-kept _ _ _), tt)),
+              answered _ _ _ refl (λ f. (stays _ _ _ f, (stays _ _ _ f, tt))),
+              (answered _ _ _ refl (one-kept _ _ _), (answered _ _ _ refl (one-kept _ _ _), (answered _ _ _ refl (one-kept _ _ _), tt))),
             ),
           ),
         ),

@@ -1,9 +1,10 @@
 -- All that is promised of runs, for any formula that meets what is asked, and so for Bellard's runs and for check runs.
 -- Assumes nothing.
-use lib.Dec.{lit<}
+use native.Mathlib.Omega.{arith}
 use Rattle.series.specs.Names.{formulaOf}
 use Rattle.series.specs.declared.Series.{Series}
 use Rattle.series.specs.declared.Series.the-variants.{Bellard, Check}
+use Rattle.series.proofs.FewRows.{few-rows, near-positions}
 use Rattle.sheet.specs.RoundTrip.{Fits}
 use Rattle.interval.proofs.Denominator.{whole-exists}
 use Rattle.interval.proofs.Premises.{positive, rest}
@@ -12,6 +13,7 @@ use Rattle.settlement.proofs.Refused.{demand1}
 use Rattle.settlement.proofs.Agreement.{demand2}
 use Rattle.settlement.proofs.Theorem.{demand3}
 use Rattle.settlement.proofs.Facts.{facts}
+use Rattle.settlement.proofs.Looks.{looks-hold}
 use Rattle.settlement.proofs.OneTotal.{as-before}
 use Rattle.settlement.proofs.EveryTerm.{no-wider}
 use Rattle.settlement.proofs.Filler.{filled-exists}
@@ -22,6 +24,7 @@ every-formula F asked = record {
   demand2 = demand2 F (asked .fits);
   demand3 = demand3 F (asked .fits .near) (asked .positive) (asked .rest);
   facts = facts F (asked .fits .near);
+  looks = looks-hold F (asked .fits .near);
   as-before = as-before F (asked .fits .near);
   no-wider = no-wider F;
   filled = λ p C. filled-exists F p C;
@@ -29,8 +32,7 @@ every-formula F asked = record {
 }
 
 fits : (f : Series) → Fits (formulaOf f)
-fits Bellard = record { few = lit< tt; near = lit< tt }
-fits Check = record { few = lit< tt; near = lit< tt }
+fits f = let h = few-rows f in record { few = omega (arith, h); near = near-positions f }
 
 -- what is asked of a formula, by the name that the code has for it
 pub asked : (f : Series) → Asked (formulaOf f)

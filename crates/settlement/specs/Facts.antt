@@ -15,6 +15,7 @@ use Rattle.ledger.specs.Calls.{openTests, openRefusal, ticketTests, ticketRefus
 use Rattle.sheet.specs.Sheet.{sheetBlocks, sheetCount}
 use Rattle.sheet.specs.Calls.{writeTests, writeRefusal, readTests, readRefusal, sheetTests, sheetRefusal}
 use Rattle.sheet.specs.Posts.{OneByOne}
+use Rattle.look.specs.Look.{lookTests, lookRefusal}
 use Rattle.closing.specs.Closing.{closeTests, closeRefusal}
 use Rattle.settlement.specs.Refused.{Arguments}
 use Rattle.settlement.specs.Halves.{HalvesMakeWhole}
@@ -29,7 +30,7 @@ pub record Table : Type 0 where
 abbrev pub table : List Test → ℕ → Table
 table tests number = record { tests = tests; number = number }
 
--- the table of each call: work a ticket or a half of it (three calls with one table), open, post, write, read and post a sheet, close
+-- the table of each call: work a ticket or a half of it (three calls with one table), open, post, write, read, post and look at a sheet, close
 abbrev pub tables : Formula → Arguments → List Table
 tables F a =
     table (workTests F (a .p) (a .C) (a .row) (a .block) (a .sums)) (workRefusal F (a .p) (a .C) (a .row) (a .block) (a .sums))
@@ -39,6 +40,8 @@ tables F a =
     ∷ table (writeTests F (a .p) (a .C) (a .list) (a .sheet)) (writeRefusal F (a .p) (a .C) (a .list) (a .sheet))
     ∷ table (readTests (limitsOf F) (a .sheet) (a .list) (a .sums)) (readRefusal (limitsOf F) (a .sheet) (a .list) (a .sums))
     ∷ table (sheetTests (limitsOf F) (viewOf (limitsOf F) (a .ledger)) (a .sheet)) (sheetRefusal (limitsOf F) (viewOf (limitsOf F) (a .ledger)) (a .sheet))
+    ∷ table (lookTests (limitsOf F) (viewOf (limitsOf F) (a .ledger)) (a .sheet) (a .total))
+    (lookRefusal (limitsOf F) (viewOf (limitsOf F) (a .ledger)) (a .sheet) (a .total))
     ∷ table (closeTests isCharged F (viewOf (limitsOf F) (a .ledger)) (totalIn (limitsOf F) (a .ledger)) (a .digits))
     (closeRefusal isCharged F (viewOf (limitsOf F) (a .ledger)) (totalIn (limitsOf F) (a .ledger)) (a .digits)) ∷ []
 
@@ -63,6 +66,8 @@ pub record TooMany (F : Formula) : Type 0 where
   pub read : (s list sums : List ℕ) → rowCount F * sheetBlocks s < sheetCount s → ThreeOrFour (readTests (limitsOf F) s list sums)
   pub posted : (ledger s : List ℕ) → rowCount F * sheetBlocks s < sheetCount s
       → ThreeOrFour (sheetTests (limitsOf F) (viewOf (limitsOf F) ledger) s)
+  pub looked-at : (ledger s total : List ℕ) → rowCount F * sheetBlocks s < sheetCount s
+      → ThreeOrFour (lookTests (limitsOf F) (viewOf (limitsOf F) ledger) s total)
 
 pub record Facts (F : Formula) : Type 0 where
   pub smallest : (a : Arguments) → AllSmallest (tables F a)

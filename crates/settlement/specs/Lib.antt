@@ -5,5 +5,6 @@ pub mod EveryTerm
 pub mod Figures
 pub mod Agreement
 pub mod Halves
+pub mod Looks
 pub mod Facts
 pub mod Runs

@@ -13,6 +13,7 @@ use Rattle.ticket.specs.declared.Part.the-variants.{Whole, Lower, Upper}
 use Rattle.ledger.specs.Ledger.{viewOf, totalIn}
 use Rattle.ledger.specs.Calls.{openRefusal, openAnswer, openBytes, ticketRefusal, ticketAnswer, ticketBytes}
 use Rattle.sheet.specs.Calls.{writeRefusal, writeAnswer, writeBytes, readRefusal, readAnswer, readList, readSums, sheetRefusal, sheetAnswer, sheetBytes}
+use Rattle.look.specs.Look.{lookRefusal, lookAnswer, lookBytes}
 use Rattle.closing.specs.Closing.{closeRefusal, closeAnswer, closeBytes}
 
 -- Numbers and slices that a call is handed, of any value and any length.
@@ -26,6 +27,7 @@ pub record Arguments : Type 0 where
   pub list : List ℕ
   pub sums : List ℕ
   pub digits : List ℕ
+  pub total : List ℕ
 
 -- A slice lent to be written, as it was and as the call leaves it.
 pub record Slice : Type 0 where
@@ -44,7 +46,8 @@ pub record Call : Type 0 where
 abbrev pub call : ℕ → ℤ → List Slice → Call
 call number answer slices = record { number = number; answer = answer; slices = slices }
 
--- the nine calls: work a ticket, its lower and its upper half, open, post, write, read and post a sheet, close
+-- the ten calls: work a ticket, its lower and its upper half, open, post, write, read, post and look at a sheet, close (for check runs the engine has
+-- no look)
 abbrev pub workCall : Formula → Arguments → Part → Call
 workCall F a part =
     call (workRefusal F (a .p) (a .C) (a .row) (a .block) (a .sums)) (workAnswer F (a .p) (a .C) (a .row) (a .block) (a .sums))
@@ -64,6 +67,8 @@ calls F a =
     ∷ call (readRefusal lim (a .sheet) (a .list) (a .sums)) (readAnswer lim (a .sheet) (a .list) (a .sums))
     (slice (a .list) (readList lim (a .sheet) (a .list) (a .sums)) ∷ slice (a .sums) (readSums lim (a .sheet) (a .list) (a .sums)) ∷ [])
     ∷ call (sheetRefusal lim seen (a .sheet)) (sheetAnswer lim (a .ledger) (a .sheet)) (slice (a .ledger) (sheetBytes lim (a .ledger) (a .sheet)) ∷ [])
+    ∷ call (lookRefusal lim seen (a .sheet) (a .total)) (lookAnswer lim (a .ledger) (a .sheet) (a .total))
+    (slice (a .total) (lookBytes lim (a .ledger) (a .sheet) (a .total)) ∷ [])
     ∷ call (closeRefusal isCharged F seen (totalIn lim (a .ledger)) (a .digits)) (closeAnswer F (a .ledger) (a .digits))
     (slice (a .digits) (closeBytes F (a .ledger) (a .digits)) ∷ []) ∷ []
 

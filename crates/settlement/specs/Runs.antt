@@ -15,6 +15,7 @@ use Rattle.settlement.specs.Settlement.{Filled, Demand3}
 use Rattle.settlement.specs.OneTotal.{AsBefore}
 use Rattle.settlement.specs.EveryTerm.{NoWider}
 use Rattle.settlement.specs.Facts.{Facts}
+use Rattle.settlement.specs.Looks.{Looks}
 
 -- What is asked: rows fit a byte and positions 8 bytes, every N is at least 1, and the exact terms that are not charged, together with all from
 -- K on, at every length add up to less than one unit on each side.
@@ -24,13 +25,14 @@ pub record Asked (F : Formula) : Type 0 where
   pub rest : (p : ℕ) → RestBelowUnit isCharged F p (termCount F p)
 
 -- What is promised: the three demands; the smallest number that applies, a sheet as its tickets one by one, too many tickets refused by 3 or
--- 4, the halves of a ticket; digits as from a ledger with one total; no digit lost since every term was charged; and that what demand 3
--- supposes can be had.
+-- 4, the halves of a ticket; looks that equal posts onto a copy; digits as from a ledger with one total; no digit lost since every term was charged;
+-- and that what demand 3 supposes can be had.
 pub record Promised (F : Formula) : Type 0 where
   pub demand1 : Demand1 F
   pub demand2 : Demand2 F
   pub demand3 : Demand3 F
   pub facts : Facts F
+  pub looks : Looks F
   pub as-before : AsBefore F
   pub no-wider : NoWider F
   -- a list of posts that fills the run, and a D above 0 that makes the exact terms whole, at every length

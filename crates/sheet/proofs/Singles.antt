@@ -14,7 +14,7 @@ use Rattle.series.specs.Series.{modulus}
 use Rattle.run.specs.Refusal.{refusal, answer}
 use Rattle.run.specs.Run.{Limits, isTicket}
 use Rattle.run.proofs.Answering as answering
-use Rattle.ledger.specs.Ledger.{View, viewOf, ledgerSize, posIn, blocksIn}
+use Rattle.ledger.specs.Ledger.{View, viewOf, ledgerSize}
 use Rattle.ledger.specs.Plain.{Plain, Entry, plainView, admit, encode, decode}
 use Rattle.ledger.specs.Calls.{ticketRefusal}
 use Rattle.ledger.proofs.Image.{Good, view-encode}
@@ -87,21 +87,32 @@ module _ (lim : Limits) where
       let posts = singles (s .p) (s .C) (entries b) in
       (posts-ledger lim s posts g ∙ ap (encode lim) (a .0) ∙ sym (step lim s (sheet b) g .0), posts-answers lim s posts g ∙ a .1)
 
--- a ledger that takes a sheet has its size and is in order, so it holds a plain ledger
-pub sheet-as-singles : (lim : Limits) → lim .last < 2 ^ 64 → OneByOne lim
-unfolding sheetAnswer viewOf decode
-sheet-as-singles lim fits ledger b bytes sheet-bytes e =
-    let taken = answering.not-refused _ 0 0 e .0 in
-    let t = sheet-taken lim (viewOf lim ledger) b taken in
+-- a ledger that takes a sheet has its size and is in order, so it holds a plain ledger, which takes the sheet as well
+pub record Held (lim : Limits) (ledger b : List ℕ) : Type 0 where
+  pub good : Good lim (decode lim ledger)
+  pub again : encode lim (decode lim ledger) ≡ ledger
+  pub taken : sheetRefusal lim (plainView (decode lim ledger)) b ≡ 0
+
+pub held : (lim : Limits) → lim .last < 2 ^ 64 → (ledger b : List ℕ) → AllBytes ledger → sheetAnswer lim ledger b ≡ pos 0 → Held lim ledger b
+unfolding sheetAnswer viewOf
+held lim fits ledger b bytes e =
+    let passed = answering.not-refused _ 0 0 e .0 in
+    let t = sheet-taken lim (viewOf lim ledger) b passed in
     let sized = eqb-true (length ledger) (ledgerSize lim) (t .sized) in
-    let s = decode lim ledger in
     let g = good-decode lim ledger bytes sized (t .ordered) fits in
-    let held = encode-decode lim ledger bytes sized (t .ordered) in
-    let seen : viewOf lim ledger ≡ plainView s = ap (viewOf lim) (sym held) ∙ view-encode lim s g in
+    let same = encode-decode lim ledger bytes sized (t .ordered) in
+    let seen : viewOf lim ledger ≡ plainView (decode lim ledger) = ap (viewOf lim) (sym same) ∙ view-encode lim (decode lim ledger) g in
+    record { good = g; again = same; taken = ap (λ (v : View). sheetRefusal lim v b) (sym seen) ∙ passed }
+
+pub sheet-as-singles : (lim : Limits) → lim .last < 2 ^ 64 → OneByOne lim
+unfolding plainView
+sheet-as-singles lim fits ledger b bytes sheet-bytes e =
+    let h = held lim fits ledger b bytes e in
+    let s = decode lim ledger in
+    let t = sheet-taken lim (plainView s) b (h .taken) in
     let P : List ℕ → ℕ → ℕ → Type 0 =
     (λ l p C. (postsBytes lim l (singles p C (entries b)) ≡ sheetBytes lim l b)
     × (postsAnswers lim l (singles p C (entries b)) ≡ replicate (length (entries b)) (pos 0))) in
     subst (λ (p : ℕ). P ledger p (sheetBlocks b)) (sym (t .same-p))
-    (subst (λ (C : ℕ). P ledger (posIn ledger) C) (sym (t .same-C))
-    (subst (λ (l : List ℕ). P l (posIn ledger) (blocksIn ledger)) held
-    (encoded-singles lim s b g sheet-bytes (ap (λ (v : View). sheetRefusal lim v b) (sym seen) ∙ taken))))
+    (subst (λ (C : ℕ). P ledger (s .p) C) (sym (t .same-C))
+    (subst (λ (l : List ℕ). P l (s .p) (s .C)) (h .again) (encoded-singles lim s b (h .good) sheet-bytes (h .taken))))

@@ -1,14 +1,14 @@
 -- The four ways through working a part of a ticket: what is answered, and what the bytes lent for the sum hold then.
 -- Assumes nothing.
-use mathlib.Core.Path.{_≡_, refl, sym, ap, ap₂, _∙_}
+use mathlib.Core.Path.{_≡_, refl, ap, _∙_}
 use mathlib.Core.Bool.{true, false}
-use mathlib.Core.List.{List, _++_, append-nil}
+use mathlib.Core.List.{List, _++_}
 use Prim.Native.Nat.{ℕ, _+_}
 use borrow.Author.Tests.{eq-eqb, ne-eqb}
 use lib.IntN.{pos, negsuc}
 use lib.ListN.{length, take, drop}
-use lib.Seq.{drop-length}
 use Rattle.words.specs.Bytes.{bytesOf}
+use Rattle.words.proofs.Bytes.{over-all}
 use Rattle.series.specs.Series.{Formula}
 use Rattle.run.specs.Refusal.{refusal}
 use Rattle.run.specs.Run.{limitsOf, inRange, isTicket}
@@ -37,4 +37,4 @@ module _ (F : Formula) (part : Part) (p C row block : ℕ) (s : List ℕ) where
       unfolding workRefusal refusal workAnswer workBytes
       worked t x s₁ q w =
           let e : workRefusal F p C row block s ≡ 0 = rw (eq-eqb _ _ h, r, t) refl in
-          (finished _ _ e, w ∙ ap₂ (λ (y : ℕ) (l : List ℕ). bytesOf 16 y ++ l) q (ap (λ (n : ℕ). drop n s) (sym h) ∙ drop-length s) ∙ append-nil _ ∙ changed _ _ _ e)
+          (finished _ _ e, w ∙ over-all s 16 x h ∙ ap (bytesOf 16) q ∙ changed _ _ _ e)

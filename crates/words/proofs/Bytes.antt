@@ -20,6 +20,10 @@ unfolding bytesOf
 length-bytes zero x = refl
 length-bytes (suc w) x = ap suc (length-bytes w (x / 256))
 
+-- written over all of a slice
+pub over-all : (s : List ℕ) (w x : ℕ) → length s ≡ w → take 0 s ++ bytesOf w x ++ drop (0 + w) s ≡ bytesOf w x
+over-all s w x h = ap (λ (l : List ℕ). bytesOf w x ++ l) (drop-of-length-le s {i = 0 + w} (omega arith)) ∙ append-nil (bytesOf w x)
+
 pub bytes-at : (w x i : ℕ) → i < w → getD (bytesOf w x) i 0 ≡ x / 256 ^ i % 256
 unfolding bytesOf
 bytes-at zero x i h = absurd (not-suc-le-zero h)

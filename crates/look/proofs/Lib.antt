@@ -1,0 +1,4 @@
+pub mod Counting
+pub mod Posted
+pub mod AsPosting
+pub mod Looking

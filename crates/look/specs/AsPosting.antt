@@ -1,0 +1,39 @@
+-- A look equals posting onto a copy of the ledger, for every ledger and sheet. Over the definitions of the two calls. Document 02, slip 6.
+use mathlib.Core.Path.{_≡_}
+use mathlib.Core.Bool.{cond}
+use mathlib.Core.List.{List}
+use Prim.Native.Nat.{ℕ, _+_, _*_, _<_}
+use lib.IntN.{pos, negℤ}
+use lib.ListN.{length}
+use Rattle.algebra.specs.Sum.{sum}
+use Rattle.words.specs.Bytes.{bytesOf}
+use Rattle.run.specs.Run.{Limits}
+use Rattle.ledger.specs.Ledger.{View, totalIn}
+use Rattle.sheet.specs.Calls.{sheetAnswer, sheetBytes}
+use Rattle.look.specs.Look.{unmarkedOf, unmarkedIn, lookAnswer, lookBytes}
+
+-- What a look at the sheet s gives beside a post of s, with 16 bytes lent for the total.
+pub record AsPosting (lim : Limits) (ledger s total : List ℕ) : Type 0 where
+  -- it is refused with n exactly where the post is, and then the total's bytes stay
+  pub refused : (n : ℕ) → 0 < n → sheetAnswer lim ledger s ≡ negℤ (pos n)
+      → (lookAnswer lim ledger s total ≡ negℤ (pos n)) × (lookBytes lim ledger s total ≡ total)
+  pub only-refused : (n : ℕ) → 0 < n → lookAnswer lim ledger s total ≡ negℤ (pos n) → sheetAnswer lim ledger s ≡ negℤ (pos n)
+  -- otherwise count and total are those of the bytes that the post leaves
+  pub taken : sheetAnswer lim ledger s ≡ pos 0
+      → (lookAnswer lim ledger s total ≡ pos (unmarkedIn lim (sheetBytes lim ledger s)))
+      × (lookBytes lim ledger s total ≡ bytesOf 16 (totalIn lim (sheetBytes lim ledger s)))
+  pub only-taken : (n : ℕ) → lookAnswer lim ledger s total ≡ pos n → sheetAnswer lim ledger s ≡ pos 0
+
+pub record LooksAsPosted (lim : Limits) : Type 0 where
+  pub as-posting : (ledger s total : List ℕ) → length total ≡ 16 → AsPosting lim ledger s total
+  -- another size of the total is refusal 1, and its bytes stay
+  pub other-size : (ledger s total : List ℕ) → (length total ≡ 16 → ⊥)
+      → (lookAnswer lim ledger s total ≡ negℤ (pos 1)) × (lookBytes lim ledger s total ≡ total)
+
+-- how many tickets are marked
+unfoldable pub marksOf : Limits → View → ℕ
+marksOf lim v = sum (λ row. sum (λ block. cond (v .marked row block) 1 0) 0 (v .C)) 0 (lim .rows)
+
+-- the unmarked tickets are all of the run, C for each row, less the marked ones
+abbrev pub AllLessMarks : Limits → Type 0
+AllLessMarks lim = (v : View) → unmarkedOf lim v + marksOf lim v ≡ lim .rows * v .C

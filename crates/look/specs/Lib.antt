@@ -1,0 +1,3 @@
+pub mod Look
+pub mod AsPosting
+pub mod Marks

@@ -1,0 +1,42 @@
+-- A look at a sheet before it is posted: it is refused as posting would be; otherwise its answer and its total are those of a copy of the ledger
+-- with the sheet posted onto it. Document 02, slip 6.
+use mathlib.Core.Bool.{Bool, not, cond, _||_}
+use mathlib.Core.List.{List, [], _∷_}
+use Prim.Native.Nat.{ℕ}
+use lib.Dec.{eqb}
+use lib.IntN.{ℤ}
+use lib.ListN.{length}
+use Rattle.algebra.specs.Sum.{sum}
+use Rattle.words.specs.Bytes.{bytesOf}
+use Rattle.run.specs.Refusal.{Test, _⇐_, refusal, answer}
+use Rattle.run.specs.Run.{Limits}
+use Rattle.ledger.specs.Ledger.{View, viewOf, totalIn}
+use Rattle.sheet.specs.Calls.{sheetTests, sheetBytes}
+
+-- how many tickets of a run are not marked, by what is seen of its ledger
+unfoldable pub unmarkedOf : Limits → View → ℕ
+unmarkedOf lim v = sum (λ row. sum (λ block. cond (v .marked row block) 0 1) 0 (v .C)) 0 (lim .rows)
+
+abbrev pub unmarkedIn : Limits → List ℕ → ℕ
+unmarkedIn lim s = unmarkedOf lim (viewOf lim s)
+
+-- a call's tests, where the first, that of sizes, applies to one slice more
+abbrev pub alsoOfSize : Bool → List Test → List Test
+alsoOfSize wrong [] = []
+alsoOfSize wrong (t ∷ ts) = (t .number ⇐ wrong || t .applies) ∷ ts
+
+-- the tests of posting the sheet, and the size of the total
+abbrev pub lookTests : Limits → View → List ℕ → List ℕ → List Test
+lookTests lim v s total = alsoOfSize (not (eqb (length total) 16)) (sheetTests lim v s)
+
+unfoldable pub lookRefusal : Limits → View → List ℕ → List ℕ → ℕ
+lookRefusal lim v s total = refusal (lookTests lim v s total)
+
+-- the number of unmarked tickets that would remain
+unfoldable pub lookAnswer : Limits → List ℕ → List ℕ → List ℕ → ℤ
+lookAnswer lim ledger s total = answer (lookRefusal lim (viewOf lim ledger) s total) (unmarkedIn lim (sheetBytes lim ledger s))
+
+-- the total that the row sums would have
+unfoldable pub lookBytes : Limits → List ℕ → List ℕ → List ℕ → List ℕ
+lookBytes lim ledger s total =
+    cond (eqb (lookRefusal lim (viewOf lim ledger) s total) 0) (bytesOf 16 (totalIn lim (sheetBytes lim ledger s))) total
