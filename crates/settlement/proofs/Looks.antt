@@ -1,4 +1,4 @@
--- What a look is good for, for any formula whose positions fit 8 bytes.
+-- Looks and the other calls, for any formula whose positions fit 8 bytes.
 -- Assumes nothing.
 use mathlib.Core.Path.{_≡_, refl, sym, ap, ap₂, _∙_}
 use mathlib.Core.Bool.{Bool, true, false, cond, not}
@@ -6,37 +6,64 @@ use mathlib.Core.List.{List, [], _∷_}
 use Prim.Native.Nat.{ℕ, _^_, _<_}
 use native.Mathlib.Omega.{arith}
 use borrow.Author.Tests.{eqb-true}
-use lib.Dec.{eqb}
+use lib.Dec.{eqb, lit<}
 use lib.IntN.{ℤ, pos, negℤ}
 use lib.ListN.{length}
-use Rattle.words.specs.Bytes.{AllBytes}
+use Rattle.algebra.specs.Sum.{sum}
+use Rattle.algebra.specs.Test.{allBelow}
+use Rattle.words.specs.Bytes.{bytesOf, valueOf, field, AllBytes}
 use Rattle.series.specs.Series.{Formula}
+use Rattle.series.specs.Bellard.{bellard}
 use Rattle.interval.specs.Interval.{isCharged}
 use Rattle.run.specs.Refusal.{refusal, answer}
-use Rattle.run.specs.Run.{Limits, limitsOf}
-use Rattle.run.proofs.Answering.{negated, not-refused, refused-by}
-use Rattle.ledger.specs.Ledger.{totalOf}
-use Rattle.ledger.specs.Plain.{Plain, plainView}
-use Rattle.ledger.proofs.Image.{view-encode}
-use Rattle.sheet.specs.Calls.{sheetAnswer, sheetBytes}
-use Rattle.sheet.specs.Posts.{postAnswer, postBytes, postsBytes, postsAnswers}
-use Rattle.look.specs.Look.{unmarkedOf, unmarkedIn, lookAnswer}
+use Rattle.run.specs.Run.{Limits, limitsOf, inRange, isTicket}
+use Rattle.run.proofs.Answering.{negated, refused-by}
+use Rattle.ledger.specs.Ledger.{View, totalOf, totalIn, fresh}
+use Rattle.ledger.specs.Plain.{Plain, plainView, encode, opened, admit, including, adding}
+use Rattle.ledger.proofs.Image.{Good, view-encode, total-encode, fresh-encode}
+use Rattle.sheet.specs.Sheet.{sheetPos, sheetBlocks, sheetCount, rowIn, blockIn, sumIn, entriesFrom, entries, every, ascending, wellFormed, contentsOf, bodiesOf, sheetOf}
+use Rattle.sheet.specs.Calls.{sheetRefusal, sheetAnswer, sheetBytes}
+use Rattle.sheet.specs.Posts.{sheet, postRefusal, postEntries, postBytes, plainAnswer, plainPost, postsBytes}
+use Rattle.sheet.proofs.Simulation.{good-opened, step, post-answers}
+use Rattle.look.specs.Look.{unmarkedOf, unmarkedIn, lookRefusal, lookAnswer, lookBytes}
 use Rattle.look.proofs.Counting.{all-less-marks, none-left}
 use Rattle.look.proofs.Posted.{all-in, leaves}
 use Rattle.look.proofs.AsPosting.{looks-as-posted}
 use Rattle.closing.specs.Closing.{settledAt, closeRefusal, closingAnswer, closeAnswer}
 use Rattle.closing.proofs.Encoded.{answer-encoded}
-use Rattle.settlement.specs.Looks.{Step, posting, looking, postsAmong, stepsBytes, stepsAnswers, ZeroWhereFull, Unseen, Looks}
+use Rattle.settlement.specs.Looks.{Step, posting, looking, Outcome, outcome, stepOutcome, stepBytes, plainOutcome, plainStep, stepsBytes, outcomes, plainOutcomes, postsAmong, Looks, someSteps, LooksTaken}
 
 -- ---- looks among posts
 
-unseen : (lim : Limits) → Unseen lim
-unfolding stepsBytes stepsAnswers postsAmong postsBytes postsAnswers
-unseen lim ledger [] = (refl, refl)
-unseen lim ledger (posting a ∷ steps) =
-    let rest = unseen lim (postBytes lim ledger a) steps in
-    (rest .0, ap (λ (l : List ℤ). postAnswer lim ledger a ∷ l) (rest .1))
+unseen : (lim : Limits) (ledger : List ℕ) (steps : List Step) → stepsBytes lim ledger steps ≡ postsBytes lim ledger (postsAmong steps)
+unfolding stepsBytes stepBytes postsAmong postsBytes
+unseen lim ledger [] = refl
+unseen lim ledger (posting a ∷ steps) = unseen lim (postBytes lim ledger a) steps
 unseen lim ledger (looking s total ∷ steps) = unseen lim ledger steps
+
+module _ (lim : Limits) where
+  -- one step: the look sees the plain ledger, and so does the post whose bytes it counts in
+  step-outcome : (plain : Plain) (a : Step) → Good lim plain → stepOutcome lim (encode lim plain) a ≡ plainOutcome lim plain a
+  unfolding stepOutcome plainOutcome lookAnswer lookBytes postBytes
+  step-outcome plain (posting a) g = ap (λ (z : ℤ). outcome z []) (post-answers lim plain a g)
+  step-outcome plain (looking s total) g =
+      let left = plainPost lim plain (sheet s) in
+      let h = step lim plain (sheet s) g in
+      let seen = view-encode lim plain g in
+      let n = ap (λ (v : View). lookRefusal lim v s total) seen in
+      let count = ap (unmarkedIn lim) (h .0) ∙ ap (unmarkedOf lim) (view-encode lim left (h .1)) in
+      let sum = ap (totalIn lim) (h .0) ∙ total-encode lim left (h .1) in
+      rw (n, count, sum) refl
+
+  all-outcomes : (plain : Plain) (steps : List Step) → Good lim plain → outcomes lim (encode lim plain) steps ≡ plainOutcomes lim plain steps
+  unfolding outcomes plainOutcomes stepBytes plainStep
+  all-outcomes plain [] g = refl
+  all-outcomes plain (posting a ∷ steps) g =
+      let h = step lim plain a g in
+      ap₂ (λ (o : Outcome) (l : List Outcome). o ∷ l) (step-outcome plain (posting a) g)
+      (ap (λ (b : List ℕ). outcomes lim b steps) (h .0) ∙ all-outcomes (plainPost lim plain a) steps (h .1))
+  all-outcomes plain (looking s total ∷ steps) g =
+      ap₂ (λ (o : Outcome) (l : List Outcome). o ∷ l) (step-outcome plain (looking s total) g) (all-outcomes plain steps g)
 
 -- ---- 0 where the run is full
 
@@ -96,10 +123,23 @@ module _ (F : Formula) (fits : F .last < 2 ^ 64) (ledger s total digits : List �
       same : {m n : ℕ} → pos m ≡ pos n → m ≡ n
       same e = cc
 
-pub looks-hold : (F : Formula) → F .last < 2 ^ 64 → Looks F
-looks-hold F fits = record {
-  as-posted = looks-as-posted (limitsOf F);
-  all-less-marks = all-less-marks (limitsOf F);
-  zero-where-full = zero-where-full F fits;
-  unseen = unseen (limitsOf F);
-}
+module _ (F : Formula) (fits : F .last < 2 ^ 64) where
+  as-plain : (p C : ℕ) → inRange (limitsOf F) p C ≡ true → (steps : List Step)
+      → outcomes (limitsOf F) (fresh (limitsOf F) p C) steps ≡ plainOutcomes (limitsOf F) (opened p C) steps
+  as-plain p C range steps =
+      ap (λ (b : List ℕ). outcomes (limitsOf F) b steps) (fresh-encode (limitsOf F) p C)
+      ∙ all-outcomes (limitsOf F) (opened p C) steps (good-opened (limitsOf F) p C fits range)
+
+  pub looks-hold : Looks F
+  looks-hold = record {
+    as-posted = looks-as-posted (limitsOf F);
+    all-less-marks = all-less-marks (limitsOf F);
+    zero-where-full = zero-where-full F fits;
+    unseen = unseen (limitsOf F);
+    as-plain = as-plain;
+  }
+
+-- by computation on the plain ledger
+pub looks-taken : LooksTaken
+unfolding plainOutcomes plainOutcome plainStep plainAnswer plainPost plainView postRefusal postEntries opened admit including adding lookRefusal sheetRefusal refusal answer inRange isTicket unmarkedOf totalOf sum allBelow wellFormed ascending every entries entriesFrom sheetCount sheetPos sheetBlocks rowIn blockIn sumIn field valueOf sheetOf contentsOf bodiesOf bytesOf
+looks-taken = as-plain bellard (lit< tt) 1 1 refl someSteps

@@ -1,16 +1,23 @@
--- What a look is good for: it equals posting onto a copy, it answers 0 exactly where the posted ledger's closing is not refused with 8, and looks
--- among posts change nothing that a later call sees. Document 02, slip 6.
+-- Looks and the other calls: a look equals posting onto a copy; it answers 0 exactly where closing after the post is not refused with 8; and among
+-- posts, looks change nothing that a later call sees, and answer as the plain ledger does. Document 02, slip 6.
 use mathlib.Core.Path.{_≡_}
+use mathlib.Core.Bool.{true, cond}
 use mathlib.Core.List.{List, [], _∷_}
-use Prim.Native.Nat.{ℕ}
+use Prim.Native.Nat.{ℕ, _-_, _^_}
+use lib.Dec.{eqb}
 use lib.IntN.{ℤ, pos, negℤ}
-use lib.ListN.{length}
-use Rattle.words.specs.Bytes.{AllBytes}
+use lib.ListN.{length, replicate}
+use Rattle.words.specs.Bytes.{bytesOf, AllBytes}
 use Rattle.series.specs.Series.{Formula}
-use Rattle.run.specs.Run.{Limits, limitsOf}
+use Rattle.series.specs.Bellard.{bellard}
+use Rattle.run.specs.Refusal.{answer}
+use Rattle.run.specs.Run.{Limits, limitsOf, inRange}
+use Rattle.ledger.specs.Ledger.{totalOf, fresh}
+use Rattle.ledger.specs.Plain.{Entry, Plain, plainView, opened}
+use Rattle.sheet.specs.Sheet.{sheetOf}
 use Rattle.sheet.specs.Calls.{sheetAnswer, sheetBytes}
-use Rattle.sheet.specs.Posts.{Post, postAnswer, postBytes, postsBytes, postsAnswers}
-use Rattle.look.specs.Look.{lookAnswer}
+use Rattle.sheet.specs.Posts.{Post, sheet, postAnswer, postBytes, plainAnswer, plainPost, postsBytes}
+use Rattle.look.specs.Look.{unmarkedOf, lookRefusal, lookAnswer, lookBytes}
 use Rattle.look.specs.AsPosting.{LooksAsPosted, AllLessMarks}
 use Rattle.closing.specs.Closing.{closeAnswer}
 
@@ -28,30 +35,84 @@ pub data Step : Type 0 where
   posting : Post → Step
   looking : List ℕ → List ℕ → Step
 
+-- What a step answers, and what the bytes lent for a total become (a post is lent none).
+pub record Outcome : Type 0 where
+  pub answered : ℤ
+  pub total : List ℕ
+
+abbrev pub outcome : ℤ → List ℕ → Outcome
+outcome answered total = record { answered = answered; total = total }
+
+-- on the bytes: a look is lent the ledger to read, so the next call is lent the same bytes
+unfoldable pub stepOutcome : Limits → List ℕ → Step → Outcome
+stepOutcome lim ledger (posting a) = outcome (postAnswer lim ledger a) []
+stepOutcome lim ledger (looking s total) = outcome (lookAnswer lim ledger s total) (lookBytes lim ledger s total)
+
+unfoldable pub stepBytes : Limits → List ℕ → Step → List ℕ
+stepBytes lim ledger (posting a) = postBytes lim ledger a
+stepBytes lim ledger (looking s total) = ledger
+
+-- on the plain ledger: a look counts and adds up in what the post of the sheet would make of it
+unfoldable pub plainOutcome : Limits → Plain → Step → Outcome
+plainOutcome lim plain (posting a) = outcome (plainAnswer lim plain a) []
+plainOutcome lim plain (looking s total) =
+    let n = lookRefusal lim (plainView plain) s total in
+    let left = plainPost lim plain (sheet s) in
+    outcome (answer n (unmarkedOf lim (plainView left))) (cond (eqb n 0) (bytesOf 16 (totalOf lim (left .sums))) total)
+
+unfoldable pub plainStep : Limits → Plain → Step → Plain
+plainStep lim plain (posting a) = plainPost lim plain a
+plainStep lim plain (looking s total) = plain
+
+-- a list of steps, each on what the one before it left
+unfoldable pub stepsBytes : Limits → List ℕ → List Step → List ℕ
+stepsBytes lim ledger [] = ledger
+stepsBytes lim ledger (a ∷ steps) = stepsBytes lim (stepBytes lim ledger a) steps
+
+unfoldable pub outcomes : Limits → List ℕ → List Step → List Outcome
+outcomes lim ledger [] = []
+outcomes lim ledger (a ∷ steps) = stepOutcome lim ledger a ∷ outcomes lim (stepBytes lim ledger a) steps
+
+unfoldable pub plainOutcomes : Limits → Plain → List Step → List Outcome
+plainOutcomes lim plain [] = []
+plainOutcomes lim plain (a ∷ steps) = plainOutcome lim plain a ∷ plainOutcomes lim (plainStep lim plain a) steps
+
+-- the posts alone
 unfoldable pub postsAmong : List Step → List Post
 postsAmong [] = []
 postsAmong (posting a ∷ steps) = a ∷ postsAmong steps
 postsAmong (looking s total ∷ steps) = postsAmong steps
 
--- the ledger after the steps, and what the posts among them answer: a look is lent the ledger to read, so the next call is lent the same bytes
-unfoldable pub stepsBytes : Limits → List ℕ → List Step → List ℕ
-stepsBytes lim ledger [] = ledger
-stepsBytes lim ledger (posting a ∷ steps) = stepsBytes lim (postBytes lim ledger a) steps
-stepsBytes lim ledger (looking s total ∷ steps) = stepsBytes lim ledger steps
-
-unfoldable pub stepsAnswers : Limits → List ℕ → List Step → List ℤ
-stepsAnswers lim ledger [] = []
-stepsAnswers lim ledger (posting a ∷ steps) = postAnswer lim ledger a ∷ stepsAnswers lim (postBytes lim ledger a) steps
-stepsAnswers lim ledger (looking s total ∷ steps) = stepsAnswers lim ledger steps
-
--- both are those of the posts alone
-abbrev pub Unseen : Limits → Type 0
-Unseen lim =
-    (ledger : List ℕ) (steps : List Step)
-    → (stepsBytes lim ledger steps ≡ postsBytes lim ledger (postsAmong steps)) × (stepsAnswers lim ledger steps ≡ postsAnswers lim ledger (postsAmong steps))
-
 pub record Looks (F : Formula) : Type 0 where
   pub as-posted : LooksAsPosted (limitsOf F)
   pub all-less-marks : AllLessMarks (limitsOf F)
   pub zero-where-full : ZeroWhereFull F
-  pub unseen : Unseen (limitsOf F)
+  -- the ledger after the steps, and so what any later call sees of it, is that of the posts alone
+  pub unseen : (ledger : List ℕ) (steps : List Step) → stepsBytes (limitsOf F) ledger steps ≡ postsBytes (limitsOf F) ledger (postsAmong steps)
+  -- on a fresh ledger looks and posts alike answer as the plain ledger does
+  pub as-plain : (p C : ℕ) → inRange (limitsOf F) p C ≡ true → (steps : List Step)
+      → outcomes (limitsOf F) (fresh (limitsOf F) p C) steps ≡ plainOutcomes (limitsOf F) (opened p C) steps
+
+-- ---- looks that are taken, and one that is not: Bellard's run p = 1, C = 1
+
+-- a ticket of block 0
+abbrev pub ofRow : ℕ → ℕ → Entry
+ofRow row sum = record { row = row; block = 0; sum = sum }
+
+abbrev pub some : List ℕ
+some = sheetOf 1 1 (ofRow 0 (2 ^ 128 - 1) ∷ ofRow 6 3 ∷ [])
+
+abbrev pub others : List ℕ
+others = sheetOf 1 1 (ofRow 1 10 ∷ ofRow 2 20 ∷ ofRow 3 30 ∷ ofRow 4 40 ∷ ofRow 5 50 ∷ [])
+
+-- no ticket on an empty sheet: all 7 remain; two would leave 5, and do; the five others would leave none; the two again are refused
+abbrev pub someSteps : List Step
+someSteps =
+    looking (sheetOf 1 1 []) (replicate 16 0) ∷ looking some (replicate 16 0) ∷ posting (sheet some) ∷ looking (sheetOf 1 1 []) (replicate 16 0)
+    ∷ looking others (replicate 16 0) ∷ looking some (replicate 16 0) ∷ []
+
+abbrev pub LooksTaken : Type 0
+LooksTaken =
+    outcomes (limitsOf bellard) (fresh (limitsOf bellard) 1 1) someSteps
+    ≡ outcome (pos 7) (bytesOf 16 0) ∷ outcome (pos 5) (bytesOf 16 2) ∷ outcome (pos 0) [] ∷ outcome (pos 5) (bytesOf 16 2)
+    ∷ outcome (pos 0) (bytesOf 16 152) ∷ outcome (negℤ (pos 7)) (replicate 16 0) ∷ []

@@ -189,6 +189,11 @@ step lim s a g = rw (post-bytes lim (encode lim s) a, view-encode lim s g) (go (
     go true e = entered lim s (postEntries a) g (post-ready lim s a (eqb-true _ _ e))
     go false e = (refl, g)
 
+-- and answer alike
+pub post-answers : (lim : Limits) (s : Plain) (a : Post) → Good lim s → postAnswer lim (encode lim s) a ≡ plainAnswer lim s a
+unfolding plainAnswer
+post-answers lim s a g = post-answer lim (encode lim s) a ∙ ap (λ (v : View). answer (postRefusal lim v a) 0) (view-encode lim s g)
+
 -- ---- a list of posts
 
 module _ (lim : Limits) where
@@ -200,12 +205,11 @@ module _ (lim : Limits) where
       ap (λ (l : List ℕ). postsBytes lim l posts) (h .0) ∙ posts-ledger (plainPost lim s a) posts (h .1)
 
   pub posts-answers : (s : Plain) (posts : List Post) → Good lim s → postsAnswers lim (encode lim s) posts ≡ plainAnswers lim s posts
-  unfolding postsAnswers plainAnswers plainAnswer
+  unfolding postsAnswers plainAnswers
   posts-answers s [] g = refl
   posts-answers s (a ∷ posts) g =
       let h = step lim s a g in
-      ap₂ (λ (x : ℤ) (l : List ℤ). x ∷ l)
-      (post-answer lim (encode lim s) a ∙ ap (λ (v : View). answer (postRefusal lim v a) 0) (view-encode lim s g))
+      ap₂ (λ (x : ℤ) (l : List ℤ). x ∷ l) (post-answers lim s a g)
       (ap (λ (l : List ℕ). postsAnswers lim l posts) (h .0) ∙ posts-answers (plainPost lim s a) posts (h .1))
 
   pub posts-good : (s : Plain) (posts : List Post) → Good lim s → Good lim (plainPosts lim s posts)

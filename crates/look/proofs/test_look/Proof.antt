@@ -1,12 +1,13 @@
 -- `look::test_look` meets its contract: one law for each way out.
 -- Assumes nothing.
+use native.Mathlib.Omega.{arith}
 use borrow.Author.Needs.{needs}
 use Rattle.look.proofs.Looking.{other-size, would-take, would-remain, would-refuse}
 use Rattle.look.proofs.test_look.Statement.{statement}
 use Rattle.look.proofs.test_look.Tie as tie
 
 returns : tie.Need-returns
-returns c = other-size _ _ _ _ (c .if1 .taken)
+returns c = let other = c .if1 .taken in other-size _ _ _ _ (λ e. omega (arith, other, e))
 
 test-sheet-requires : tie.Need-test-sheet-requires
 test-sheet-requires c κs = search needs
@@ -24,12 +25,14 @@ returns-2 : tie.Need-returns-2
 returns-2 c =
     let told = c .before in
     let tests = told .before .before in
-    would-remain _ _ _ _ _ (tests .test-sheet .ensures) (tests .before .if1 .left) _ _ (told .enum-told .given .1) (c .remaining .ensures)
+    let room = tests .before .if1 .left in
+    would-remain _ _ _ _ _ (tests .test-sheet .ensures) (omega (arith, room)) _ _ (told .enum-told .given .1) (c .remaining .ensures)
 
 returns-3 : tie.Need-returns-3
 returns-3 c =
     let tests = c .before .before .before in
-    would-refuse _ _ _ _ _ (tests .test-sheet .ensures) (tests .before .if1 .left) _ (c .before .r .given .1)
+    let room = tests .before .if1 .left in
+    would-refuse _ _ _ _ _ (tests .test-sheet .ensures) (omega (arith, room)) _ (c .before .r .given .1)
 
 pub test-look-spec : {M : Type 1} → statement M
 test-look-spec =
