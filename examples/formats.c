@@ -2,7 +2,7 @@
  * formats - prints the worked examples of docs/FORMATS.md, each with its title:
  * a run at p = 1 from opening to closing, the halves of a ticket, and the sums
  * of another run; first of a Bellard run, then the same of a check run, with
- * the word `check` before its titles.
+ * the word `check` before its titles. A look is there in the Bellard run alone.
  */
 #include <bbp.h>
 
@@ -78,6 +78,15 @@ static void print_halves(const struct example *example)
     print_sum(example, P, example->halved);
 }
 
+static void print_look(const struct example *example, const uint8_t *sheet, size_t sheet_len)
+{
+    const struct kind *kind = example->kind;
+    uint8_t total[BBP_TOTAL_SIZE];
+    int64_t remaining = finished("look", kind->look(example->ledger, kind->ledger_size, sheet, sheet_len, total, sizeof total));
+    print_bytes(example, "total by a look at that sheet", total, sizeof total);
+    printf("its answer, the tickets that would remain\n%" PRId64 "\n", remaining);
+}
+
 static void post_sheet(struct example *example)
 {
     const struct kind *kind = example->kind;
@@ -92,6 +101,8 @@ static void post_sheet(struct example *example)
     finished("sheet write", kind->sheet_write(P, tickets[0].c, list, sizeof list, sheet, sizeof sheet));
     snprintf(title, sizeof title, "sheet %s", names);
     print_bytes(example, title, sheet, sizeof sheet);
+    if (kind->look != NULL)
+        print_look(example, sheet, sizeof sheet);
     finished("sheet post", kind->sheet_post(example->ledger, kind->ledger_size, sheet, sizeof sheet));
     print_ledger(example, "ledger after posting that sheet");
 }

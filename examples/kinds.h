@@ -24,16 +24,19 @@ struct kind {
     int64_t (*sheet_read)(const uint8_t *sheet, size_t sheet_len, uint8_t *list, size_t list_len,
                           uint8_t *sums, size_t sums_len);
     int64_t (*sheet_post)(uint8_t *ledger, size_t ledger_len, const uint8_t *sheet, size_t sheet_len);
+    int64_t (*look)(const uint8_t *ledger, size_t ledger_len, const uint8_t *sheet, size_t sheet_len, uint8_t *total,
+                    size_t total_len); /* NULL where the kind has none */
     int64_t (*close)(const uint8_t *ledger, size_t ledger_len, uint8_t *digits, size_t digits_len);
 };
 
-#define KIND(word, suffix, calls, numbers)                                                                       \
+#define KIND(word, suffix, calls, numbers, look)                                                                 \
     {word, suffix, numbers##MAX_POSITION, numbers##ROWS, numbers##LEDGER_SIZE, numbers##ROW_MARKS_AT(0), calls##work, \
      calls##work_lower, calls##work_upper, calls##open, calls##post, calls##sheet_write, calls##sheet_read,          \
-     calls##sheet_post, calls##close}
+     calls##sheet_post, look, calls##close}
 
 enum { BELLARD, CHECK, KINDS };
-static const struct kind kinds[KINDS] = {KIND("", "", bbp_, BBP_), KIND("check ", ".check", bbp_check_, BBP_CHECK_)};
+static const struct kind kinds[KINDS] = {KIND("", "", bbp_, BBP_, bbp_look),
+                                         KIND("check ", ".check", bbp_check_, BBP_CHECK_, NULL)};
 
 /* Closes a ledger and prints its kind's word, position, number of digits, digits; gives that number. */
 static inline int64_t print_closing(const struct kind *kind, uint64_t p, const uint8_t *ledger, uint8_t *digits)

@@ -5,13 +5,15 @@
  * A run is a position p (the first digit after the point being position 1)
  * and a block count C (1 to 256). The rows of its formula are cut into C blocks
  * each; one block of one row is a ticket. Tickets are worked one by one, here
- * or by a supplier, and posted to the run's ledger, singly or as a sheet. A
- * large ticket can be worked by two machines, a half each, and posted with the
- * sum of both. A ledger with every ticket posted is closed: that gives the
- * hexadecimal digits of pi from position p on that the run settles.
+ * or by a supplier, and posted to the run's ledger, singly or as a sheet. What
+ * a sheet would do can be looked at before it is posted. A large ticket can be
+ * worked by two machines, a half each, and posted with the sum of both. A
+ * ledger with every ticket posted is closed: that gives the hexadecimal digits
+ * of pi from position p on that the run settles.
  *
- * There are two kinds of runs, each with nine calls of its own, which do the
- * same over another formula:
+ * There are two kinds of runs, with nineteen calls: ten for Bellard's runs and
+ * nine for check runs, which do the same over another formula. bbp_look is for
+ * Bellard's runs alone.
  *
  *                                  Bellard's run   check run
  *   calls and constants            bbp_, BBP_      bbp_check_, BBP_CHECK_
@@ -23,8 +25,9 @@
  *   bytes of a sheet, at most      35,856          20,496
  *   terms of a ticket, about       0.4 p / C       p / C
  *
- * What this file says of a call holds for both its names, each with the numbers
- * of its own column; constants without a form BBP_CHECK_ are those of both.
+ * What this file says of a call holds for both its names, where it has two, each
+ * with the numbers of its own column; constants without a form BBP_CHECK_ are
+ * those of both.
  *
  * A check run is one more computation of the same digits, by another formula:
  * where the two closings agree, an error would have had to happen twice, alike.
@@ -33,10 +36,10 @@
  * Keep the two kinds apart. A ledger is of one kind by its size. A sheet does
  * not name its formula: one that a check run has written is taken by
  * bbp_sheet_read, and by bbp_sheet_post onto a Bellard ledger of the same p and
- * C, without a refusal; and a sheet of a Bellard run with rows 0 to 3 alone and
- * p up to 2^59 is taken by the check calls. The ledger then holds wrong sums,
- * and its digits are wrong or are refused. Nor does a sum in 16 bytes name its
- * formula.
+ * C, without a refusal, and a look does not tell it either; and a sheet of a
+ * Bellard run with rows 0 to 3 alone and p up to 2^59 is taken by the check
+ * calls. The ledger then holds wrong sums, and its digits are wrong or are
+ * refused. Nor does a sum in 16 bytes name its formula.
  *
  * docs/FORMATS.md, installed as share/doc/bbp/FORMATS.md, gives the bytes of a
  * ledger, a list and a sheet, the arithmetic, and each call's refusals in order.
@@ -68,7 +71,7 @@ extern "C" {
 
 /* The version. BBP_VERSION grows from each version to the next, so that #if can compare it. */
 #define BBP_VERSION_MAJOR 3
-#define BBP_VERSION_MINOR 0
+#define BBP_VERSION_MINOR 1
 #define BBP_VERSION_PATCH 0
 #define BBP_VERSION (1000000 * BBP_VERSION_MAJOR + 1000 * BBP_VERSION_MINOR + BBP_VERSION_PATCH)
 #define BBP_VERSION_STRING \
@@ -88,11 +91,12 @@ extern "C" {
 /* Sizes of slices, in bytes. */
 #define BBP_SUM_SIZE 16           /* the sum of a ticket or of a half, exactly */
 #define BBP_DIGITS_SIZE 32        /* the digits' slice of a closing, exactly */
+#define BBP_TOTAL_SIZE 16         /* the total of a look, exactly */
 #define BBP_LEDGER_SIZE 352       /* a ledger, exactly: 16, and 48 for each row */
 #define BBP_CHECK_LEDGER_SIZE 208
 #define BBP_LIST_MAX 3584         /* a list to be worked, at most: 2 for each of 256 tickets of each row */
 #define BBP_CHECK_LIST_MAX 2048
-#define BBP_SHEET_MAX 35856       /* a sheet that is read or posted, at most: 16, and 20 for each of these tickets */
+#define BBP_SHEET_MAX 35856       /* a sheet to read, post or look at, at most: 16, and 20 for each of these tickets */
 #define BBP_CHECK_SHEET_MAX 20496
 
 /* Where a row's sum, 16 bytes, and its marks, 32 bytes, stand in a ledger. */
@@ -113,10 +117,11 @@ extern "C" {
  * compares -answer with these.
  */
 enum bbp_refusal {
-    /* A slice of the wrong size: a ledger not of BBP_LEDGER_SIZE bytes, a sum not of 16, digits not of
-       32; a list to be worked of odd length or over BBP_LIST_MAX; a sheet to read or post under 16 or
-       over BBP_SHEET_MAX; a sheet to write under 16 + 20e; read outputs under 2e or 16e, where e is the
-       count in the sheet's head. Here and below, a check call goes by the BBP_CHECK_ constants. */
+    /* A slice of the wrong size: a ledger not of BBP_LEDGER_SIZE bytes, a sum or a total not of 16,
+       digits not of 32; a list to be worked of odd length or over BBP_LIST_MAX; a sheet to read, post or
+       look at under 16 or over BBP_SHEET_MAX; a sheet to write under 16 + 20e; read outputs under 2e or
+       16e, where e is the count in the sheet's head. Here and below, a check call goes by the BBP_CHECK_
+       constants. */
     BBP_REFUSED_SIZE = 1,
     /* The position or the block count, of the call or in the sheet's head, is out of range. */
     BBP_REFUSED_RANGE = 2,
@@ -224,6 +229,25 @@ int64_t bbp_check_sheet_read(const uint8_t *sheet, size_t sheet_len, uint8_t *li
  */
 int64_t bbp_sheet_post(uint8_t *ledger, size_t ledger_len, const uint8_t *sheet, size_t sheet_len);
 int64_t bbp_check_sheet_post(uint8_t *ledger, size_t ledger_len, const uint8_t *sheet, size_t sheet_len);
+
+/*
+ * Looks at what bbp_sheet_post would do with this ledger and this sheet, and
+ * changes neither: the ledger is only read. Where posting would be refused,
+ * answers the same refusal. Otherwise writes the total that the ledger would
+ * then have, all seven row sums added modulo 2^128, into the 16 bytes of
+ * `total`, and answers how many tickets of the run would then be unmarked: 7 * C
+ * less the marks. That is 0 where the sheet would fill the run, so that closing
+ * would no longer be refused with 8. It is the same as posting the sheet onto a
+ * copy of the ledger, then adding up the copy's row sums and counting its marks.
+ *
+ * Answers that number, 0 to 1,792, or refusal 1 (ledger_len not BBP_LEDGER_SIZE,
+ * sheet_len under 16 or over BBP_SHEET_MAX, total_len not 16), 2, 3, 4, 5, 6 or
+ * 7. A look at a sheet of no tickets gives the total and the unmarked tickets
+ * that the ledger has now. Check runs have no such call, and a check ledger is
+ * refused with 1.
+ */
+int64_t bbp_look(const uint8_t *ledger, size_t ledger_len, const uint8_t *sheet, size_t sheet_len,
+                 uint8_t *total, size_t total_len);
 
 /*
  * Closes a ledger: writes the d digits that it settles, d from 1 to 32, as
