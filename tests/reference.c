@@ -199,6 +199,14 @@ ref_u128 ref_row_sum(const uint8_t *ledger, uint64_t row)
     return ref_load_sum(ledger + 16 + 16 * row);
 }
 
+ref_u128 ref_total(ref_formula *f, const uint8_t *ledger)
+{
+    ref_u128 total = 0;
+    for (uint64_t row = 0; row < f->rows; row++)
+        total += ref_row_sum(ledger, row);
+    return total;
+}
+
 int ref_marked(ref_formula *f, const uint8_t *ledger, uint64_t row, uint64_t block)
 {
     return ledger[mark_at(f, row, block)] >> block % 8 & 1;
@@ -433,4 +441,35 @@ int64_t ref_sheet_post(ref_formula *f, uint8_t *ledger, size_t ledger_len, const
     for (size_t i = 0; i < e; i++)
         post_sum(f, ledger, entry_row(sheet, i), entry_block(sheet, i), sheet + 16 + 4 * e + 16 * i);
     return 0;
+}
+
+/* The look of document 02, slip 6. */
+
+ref_refusals ref_look_refusals(ref_formula *f, const uint8_t *ledger, size_t ledger_len, const uint8_t *sheet,
+                               size_t sheet_len, size_t total_len)
+{
+    return (total_len != 16 ? SIZE : 0u) | ref_sheet_post_refusals(f, ledger, ledger_len, sheet, sheet_len);
+}
+
+static int64_t unmarked_tickets(ref_formula *f, const uint8_t *ledger)
+{
+    uint64_t c = ref_load(ledger + 8, 2);
+    int64_t unmarked = 0;
+    for (uint64_t row = 0; row < f->rows; row++)
+        for (uint64_t block = 0; block < c; block++)
+            unmarked += !ref_marked(f, ledger, row, block);
+    return unmarked;
+}
+
+int64_t ref_look(ref_formula *f, const uint8_t *ledger, size_t ledger_len, const uint8_t *sheet, size_t sheet_len,
+                 uint8_t *total, size_t total_len)
+{
+    uint8_t copy[352];
+    ref_refusals refusals = ref_look_refusals(f, ledger, ledger_len, sheet, sheet_len, total_len);
+    if (refusals != 0)
+        return ref_answer(refusals);
+    memcpy(copy, ledger, f->ledger);
+    ref_sheet_post(f, copy, f->ledger, sheet, sheet_len);
+    store_sum(total, ref_total(f, copy));
+    return unmarked_tickets(f, copy);
 }

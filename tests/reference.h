@@ -1,9 +1,9 @@
 /*
- * An implementation of the nine calls of each kind of runs, written from
- * document 01 and slips 1, 3, 4 and 5 of document 02 alone, for comparison. It
- * prefers the obvious to the fast: remainders by `%` on 128 bits, every
- * condition of the refusal table evaluated by itself, terms added from first
- * to last.
+ * An implementation of the nine calls of each kind of runs, and of the look of
+ * Bellard's runs, written from document 01 and slips 1, 3, 4, 5 and 6 of
+ * document 02 alone, for comparison. It prefers the obvious to the fast:
+ * remainders by `%` on 128 bits, every condition of the refusal table evaluated
+ * by itself, terms added from first to last, a look by posting onto a copy.
  */
 #ifndef REFERENCE_H
 #define REFERENCE_H
@@ -38,6 +38,8 @@ int64_t ref_sheet_write(ref_formula *f, uint64_t p, uint64_t c, const uint8_t *l
 int64_t ref_sheet_read(ref_formula *f, const uint8_t *sheet, size_t sheet_len, uint8_t *list, size_t list_len,
                        uint8_t *sums, size_t sums_len);
 int64_t ref_sheet_post(ref_formula *f, uint8_t *ledger, size_t ledger_len, const uint8_t *sheet, size_t sheet_len);
+int64_t ref_look(ref_formula *f, const uint8_t *ledger, size_t ledger_len, const uint8_t *sheet, size_t sheet_len,
+                 uint8_t *total, size_t total_len);
 int64_t ref_close(ref_formula *f, const uint8_t *ledger, size_t ledger_len, uint8_t *digits, size_t digits_len);
 
 /*
@@ -57,6 +59,8 @@ ref_refusals ref_sheet_read_refusals(ref_formula *f, const uint8_t *sheet, size_
                                      size_t sums_len);
 ref_refusals ref_sheet_post_refusals(ref_formula *f, const uint8_t *ledger, size_t ledger_len, const uint8_t *sheet,
                                      size_t sheet_len);
+ref_refusals ref_look_refusals(ref_formula *f, const uint8_t *ledger, size_t ledger_len, const uint8_t *sheet,
+                               size_t sheet_len, size_t total_len);
 ref_refusals ref_close_refusals(ref_formula *f, const uint8_t *ledger, size_t ledger_len, size_t digits_len);
 
 /* Parts that the vectors speak of. */
@@ -81,5 +85,7 @@ int64_t ref_answer(ref_refusals refusals);
 int ref_ledger_in_order(ref_formula *f, const uint8_t *ledger);
 int ref_marked(ref_formula *f, const uint8_t *ledger, uint64_t row, uint64_t block);
 ref_u128 ref_row_sum(const uint8_t *ledger, uint64_t row);
+/* The sum of the row sums modulo 2^128. */
+ref_u128 ref_total(ref_formula *f, const uint8_t *ledger);
 
 #endif

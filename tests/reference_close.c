@@ -56,23 +56,14 @@ static int settled_digits(struct whole low, struct whole high)
     return 0;
 }
 
-/* The sum of the row sums modulo 2^128. */
-static ref_u128 total_of(ref_formula *f, const uint8_t *ledger)
-{
-    ref_u128 total = 0;
-    for (uint64_t row = 0; row < f->rows; row++)
-        total += ref_row_sum(ledger, row);
-    return total;
-}
-
 static struct whole low_of(ref_formula *f, const uint8_t *ledger)
 {
-    return minus(total_of(f, ledger), ref_charged_terms(f, ref_load(ledger, 8), 0) + 1);
+    return minus(ref_total(f, ledger), ref_charged_terms(f, ref_load(ledger, 8), 0) + 1);
 }
 
 static struct whole high_of(ref_formula *f, const uint8_t *ledger)
 {
-    return plus(total_of(f, ledger), ref_charged_terms(f, ref_load(ledger, 8), 1) + 1);
+    return plus(ref_total(f, ledger), ref_charged_terms(f, ref_load(ledger, 8), 1) + 1);
 }
 
 static int all_marked(ref_formula *f, const uint8_t *ledger)
