@@ -1,6 +1,7 @@
 /*
- * A stand-in for the engine, in C: the nine calls of both kinds of runs by
- * Montgomery arithmetic and early returns, sharing no code with the reference.
+ * A stand-in for the engine, in C: the nine calls of both kinds of runs and the
+ * look of Bellard's runs, by Montgomery arithmetic and early returns, and a look
+ * without a copy of the ledger. It shares no code with the reference.
  * It is right unless the environment variable MUTANT names a number; then it is
  * wrong in the one way that WRONG(number) marks. tests/mutants/run.sh shows that
  * the tests pass on the right one and fail on each wrong one.
@@ -66,6 +67,9 @@ static const formula bellard = {(uint64_t)1 << 60, 7, 10, 1, {
 static const formula check = {(uint64_t)1 << 59, 4, 4, 0, {
     {8, 1, 2, 0}, {2, 1, -1, 1}, {8, 5, 0, 1}, {4, 3, -1, 1},
 }};
+
+/* In place of the number of a check call, for a call that check runs have not. */
+enum { NO_CHECK_CALL = 0 };
 
 /* What a call of Bellard's runs goes by. */
 static formula bellard_runs(int call)
@@ -704,13 +708,12 @@ static int64_t post_sheet(const formula *f, uint8_t *ledger, const uint8_t *shee
     return 0;
 }
 
-static int64_t sheet_post(const formula *f, uint8_t *ledger, size_t ledger_len, const uint8_t *sheet, size_t sheet_len)
+/* Refusals 1 to 6 of a sheet on a ledger. */
+static int64_t bad_posting(const formula *f, const uint8_t *ledger, size_t ledger_len, const uint8_t *sheet, size_t sheet_len)
 {
     if (bad_ledger_size(f, ledger_len) || bad_sheet_size(f, sheet_len) || unaligned(54, ledger) || unaligned(55, sheet))
         return -1;
     int64_t bad = bad_sheet(f, sheet, length(sheet_len));
-    if (WRONG_IN_CHECK(156) && bad == -4)
-        ledger[16]++;
     if (bad != 0)
         return bad;
     if (WRONG(38) && load(sheet + 10, 2) == 0)
@@ -719,9 +722,15 @@ static int64_t sheet_post(const formula *f, uint8_t *ledger, size_t ledger_len, 
         return -5;
     if (other_run(ledger, load(sheet, 8), load(sheet + 8, 2)))
         return -6;
-    if (WRONG(32) && bad_ledger(f, ledger))
-        return -5;
-    return post_sheet(f, ledger, sheet, load(sheet + 10, 2));
+    return WRONG(32) && bad_ledger(f, ledger) ? -5 : 0;
+}
+
+static int64_t sheet_post(const formula *f, uint8_t *ledger, size_t ledger_len, const uint8_t *sheet, size_t sheet_len)
+{
+    int64_t bad = bad_posting(f, ledger, ledger_len, sheet, sheet_len);
+    if (WRONG_IN_CHECK(156) && bad == -4)
+        ledger[16]++;
+    return bad != 0 ? bad : post_sheet(f, ledger, sheet, load(sheet + 10, 2));
 }
 
 /* Closing. */
@@ -848,7 +857,132 @@ static int64_t close_run(const formula *f, const uint8_t *ledger, size_t ledger_
     return d;
 }
 
-/* The calls of bbp.h: nine for each kind of runs. */
+/* Looking: what the post of a sheet would do. */
+
+/* The number of the ledger's marks. */
+static uint64_t marks_in(const formula *f, const uint8_t *ledger)
+{
+    uint64_t c = load(ledger + 8, 2), marks = 0, blocks = WRONG(213) ? c & ~(uint64_t)7 : c;
+    for (uint64_t row = 0; row < f->rows - WRONG(214); row++)
+        for (uint64_t block = 0; block < blocks && block < 256; block++)
+            marks += (uint64_t)is_marked(f, ledger, row, block);
+    return marks;
+}
+
+/* Whether a ticket of the sheet is marked. */
+static int any_marked(const formula *f, const uint8_t *ledger, const uint8_t *sheet)
+{
+    size_t e = load(sheet + 10, 2), looked_at = WRONG(196) && e > 1 ? 1 : e;
+    for (size_t i = WRONG(197) && e > 1 ? e - 1 : 0; i < looked_at; i++)
+        if (is_marked(f, ledger, sheet[16 + 4 * i], sheet[18 + 4 * i]))
+            return 1;
+    return 0;
+}
+
+/* Refusals 2 to 7 of a post, and those of wrong engines in their place. */
+static int64_t bad_look(const formula *f, const uint8_t *ledger, size_t ledger_len, const uint8_t *sheet, size_t sheet_len)
+{
+    int64_t bad = bad_posting(f, ledger, ledger_len, sheet, sheet_len);
+    if (WRONG(193) && bad == -5)
+        bad = other_run(ledger, load(sheet, 8), load(sheet + 8, 2)) ? -6 : 0;
+    if (WRONG(194) && bad == -6)
+        bad = 0;
+    if (!WRONG(195) && (bad == 0 || (WRONG(198) && bad == -6)) && any_marked(f, ledger, sheet))
+        return -7;
+    return bad;
+}
+
+/* The number of tickets that would remain unmarked. */
+static int64_t remaining(const formula *f, const uint8_t *ledger, const uint8_t *sheet)
+{
+    uint64_t c = WRONG(185) ? 256 : load(ledger + 8, 2), e = load(sheet + 10, 2);
+    uint64_t marks = (WRONG(182) ? 0 : marks_in(f, ledger)) + (WRONG(181) ? 0 : e);
+    uint64_t count = WRONG(186) ? marks : (WRONG(215) ? check.rows : f->rows) * c - marks;
+    if (WRONG(203) || (WRONG(201) && e == 0))
+        return 0;
+    return WRONG(204) ? (uint8_t)count : (int64_t)count;
+}
+
+/* The total with the sheet's sums. */
+static u128 total_after(const formula *f, const uint8_t *ledger, const uint8_t *sheet)
+{
+    size_t e = load(sheet + 10, 2);
+    const uint8_t *bodies = sheet + 16 + 4 * e;
+    u128 total = WRONG(184) ? 0 : total_of(f, ledger);
+    for (size_t i = 0; i + WRONG(211) < e && !WRONG(183); i++) {
+        uint8_t row = sheet[16 + 4 * i];
+        if ((WRONG(210) && row == f->rows - 1) || (WRONG(209) && i + 1 < e && row == sheet[20 + 4 * i]))
+            continue;
+        total = plus(total, load_sum(bodies + 16 * (WRONG(212) ? 0 : i)), WRONG(207), WRONG(208));
+    }
+    return total;
+}
+
+static void store_total(uint8_t *at, u128 total)
+{
+    if (WRONG(206))
+        store(at, 8, (uint64_t)total);
+    else
+        store_sum(at, total);
+    for (int i = 0; i < 16 && WRONG(205); i++)
+        at[i] = (uint8_t)(total >> 8 * (15 - i));
+    if (WRONG(216))
+        at[16] = 0;
+}
+
+/* What wrong engines do with the ledger: they post, or post and then put back what was there. */
+static void post_in_place(const formula *f, const uint8_t *lent, const uint8_t *sheet)
+{
+    uint8_t kept[352], *ledger = (uint8_t *)(uintptr_t)lent;
+    memcpy(kept, lent, sizeof kept);
+    post_sheet(f, ledger, sheet, load(sheet + 10, 2));
+    if (WRONG(192))
+        memcpy(ledger, kept, sizeof kept);
+}
+
+/* The ways in which the stand-in refuses a look that is right. */
+static int64_t wrongly_refused_look(const formula *f, const uint8_t *ledger, const uint8_t *sheet)
+{
+    int64_t left = remaining(f, ledger, sheet);
+    uint64_t all = f->rows * load(ledger + 8, 2);
+    if (WRONG(199) && left > 0)
+        return -8;
+    if (WRONG(200) && marks_in(f, ledger) == all)
+        return -7;
+    if (WRONG(202) && load(sheet + 10, 2) == 0)
+        return -3;
+    return WRONG(217) && left == 0 && total_after(f, ledger, sheet) == 0 ? -9 : 0;
+}
+
+static int bad_total_size(const uint8_t *total, size_t total_len)
+{
+    size_t len = output_length(218, total_len);
+    return (len < 16 && !WRONG(188)) || (len > 16 && !WRONG(188) && !WRONG(189)) || unaligned(219, total);
+}
+
+static int64_t look(const formula *f, const uint8_t *ledger, size_t ledger_len, const uint8_t *sheet, size_t sheet_len,
+                    uint8_t *total, size_t total_len)
+{
+    if (!WRONG(190) && bad_total_size(total, total_len))
+        return -1;
+    if (WRONG(220))
+        memset(total, 0, 16);
+    int64_t bad = bad_look(f, ledger, ledger_len, sheet, sheet_len);
+    if (WRONG(190) && bad == 0 && bad_total_size(total, total_len))
+        return -1;
+    if (bad == 0)
+        bad = wrongly_refused_look(f, ledger, sheet);
+    if (bad == 0 || (WRONG(187) && bad == -7))
+        store_total(total, total_after(f, ledger, sheet));
+    if (bad != 0)
+        return bad;
+    int64_t answer = remaining(f, ledger, sheet);
+    if (WRONG(191) || WRONG(192))
+        post_in_place(f, ledger, sheet);
+    return answer;
+}
+
+/* The calls of bbp.h: nine for each kind of runs, and one for Bellard's runs alone. */
 
 #define WORKING(prefix, call, by) \
     int64_t prefix##call(uint64_t p, uint64_t c, uint64_t row, uint64_t block, uint8_t *sum, size_t sum_len) \
@@ -903,3 +1037,10 @@ static int64_t close_run(const formula *f, const uint8_t *ledger, size_t ledger_
 
 CALLS(bbp_, bellard_runs)
 CALLS(bbp_check_, check_runs)
+
+int64_t bbp_look(const uint8_t *ledger, size_t ledger_len, const uint8_t *sheet, size_t sheet_len, uint8_t *total,
+                 size_t total_len)
+{
+    const formula f = bellard_runs(NO_CHECK_CALL);
+    return look(&f, ledger, ledger_len, sheet, sheet_len, total, total_len);
+}
