@@ -30,9 +30,11 @@ COUNT = 3000
 LONG = 1000000000 10000000000 100000000000
 PROCESSES =
 
-# The calls of the engine, which Bellard's runs and check runs have alike; test_CALL and test_check_CALL test one.
+# The calls of the engine: those that Bellard's runs and check runs have alike, and those of Bellard's runs alone. test_CALL
+# tests one, and test_check_CALL the one of check runs.
 CALLS = work work_lower work_upper open post sheet_write sheet_read sheet_post close
-SYMBOLS = $(CALLS:%=bbp_%) $(CALLS:%=bbp_check_%)
+BELLARD_CALLS = look
+SYMBOLS = $(CALLS:%=bbp_%) $(BELLARD_CALLS:%=bbp_%) $(CALLS:%=bbp_check_%)
 
 # Not for a command line to change: install goes by it.
 override PROVED = target/staticlib/libengine.a
@@ -52,10 +54,10 @@ PROGRAM_FLAGS = $(WARN) $(INCLUDE) $(CFLAGS)
 
 # Tests that are built for each kind of runs, and all tests.
 OF_A_KIND = $(CALLS) refusals tickets halves list
-TESTS = $(OF_A_KIND) $(OF_A_KIND:%=check_%) kinds
+TESTS = $(OF_A_KIND) $(BELLARD_CALLS) $(OF_A_KIND:%=check_%) kinds
 
 # What a test is linked with: of its kind, and of both.
-SUPPORT = common sheets vectors working
+SUPPORT = common sheets postings vectors working
 REFERENCE = reference reference_close
 HEADERS = $(wildcard include/*.h tests/*.h examples/*.h bench/*.h)
 

@@ -99,7 +99,7 @@ static void sum_is_taken(const struct kind *from, const struct kind *by)
 /* Each call with a ledger of the other kind, fresh and with every ticket posted. */
 static void ledger_is_refused(const struct kind *of, const struct kind *by, uint64_t c)
 {
-    uint8_t before[MOST_LEDGER], sum[16] = {0}, digits[32] = {0};
+    uint8_t before[MOST_LEDGER], sum[16] = {0}, digits[32] = {0}, total[16];
     size_t len = of->ledger_len;
     open_ledger(of, 1, c);
     for (int full = 0; full < 2; full++) {
@@ -109,6 +109,8 @@ static void ledger_is_refused(const struct kind *of, const struct kind *by, uint
         CHECK(by->post(ledger, len, 1, c, 0, 0, sum, 16) == -1, "a ticket is posted to %s ledger", of->name);
         CHECK(by->sheet_post(ledger, len, sheet, sheet_len) == -1, "a sheet is posted to %s ledger", of->name);
         CHECK(by->close(ledger, len, digits, 32) == -1, "%s ledger is closed", of->name);
+        CHECK(of == &bellard || bbp_look(ledger, len, sheet, sheet_len, total, 16) == -1, "a sheet is looked at on %s ledger",
+              of->name);
         CHECK(memcmp(ledger, before, len) == 0, "%s ledger is changed", of->name);
         sheet_len = write_rows(of, 1, c, 0, of->rows);
         CHECK(full || of->sheet_post(ledger, len, sheet, sheet_len) == 0, "%s sheet of all tickets", of->name);

@@ -2,8 +2,9 @@
  * The small examples of document 01's refusal table, each put to every call
  * that it fits, and what slips 1, 4 and 5 of document 02 turn away: ledgers of
  * 256 bytes or of the other kind's size, what is past the kind's last row or
- * position, and totals at the edges of p = 1. The answers stand here; no
- * reference is asked.
+ * position, and totals at the edges of p = 1. The look of slip 6, which check
+ * runs have not, is put to all that posting a sheet is. The answers stand here;
+ * no reference is asked.
  */
 #include "common.h"
 
@@ -95,6 +96,16 @@ static int64_t call_sheet_post(const struct example *x)
     return answer;
 }
 
+#ifndef CHECK_RUN
+static int64_t call_look(const struct example *x)
+{
+    uint8_t sheet[56], total[16];
+    size_t len = put_sheet(sheet, x);
+    any_bytes(total, 16);
+    return bbp_look(lend_input(0, ledger, x->ledger.len), x->ledger.len, lend_input(1, sheet, len), len, lend(2, total, 16), 16);
+}
+#endif
+
 static int64_t call_close(const struct example *x)
 {
     uint8_t digits[32];
@@ -102,18 +113,22 @@ static int64_t call_close(const struct example *x)
     return CALL(close)(lend_input(0, ledger, x->ledger.len), x->ledger.len, lend(1, digits, 32), 32);
 }
 
-/* Each call has its bit, by its place. */
+/* Each call has its bit, by its place. A call that marked tickets refuse has the one that marks them. */
 static const struct call {
     const char *name;
     int64_t (*make)(const struct example *x);
+    int64_t (*mark)(const struct example *x);
 } calls[] = {
-    {"work", call_work}, {"work_lower", call_work_lower}, {"work_upper", call_work_upper}, {"open", call_open},
-    {"post", call_post}, {"sheet_write", call_write}, {"sheet_read", call_read}, {"sheet_post", call_sheet_post},
-    {"close", call_close},
+    {"work", call_work, NULL}, {"work_lower", call_work_lower, NULL}, {"work_upper", call_work_upper, NULL},
+    {"open", call_open, NULL}, {"post", call_post, call_post}, {"sheet_write", call_write, NULL},
+    {"sheet_read", call_read, NULL}, {"sheet_post", call_sheet_post, call_sheet_post}, {"close", call_close, NULL},
+#ifndef CHECK_RUN
+    {"look", call_look, call_sheet_post},
+#endif
 };
 enum {
-    WORK = 7, OPEN = 8, POST = 16, WRITE = 32, READ = 64, SHEET_POST = 128, CLOSE = 256,
-    POSTS = POST | SHEET_POST, SHEETS = WRITE | READ | SHEET_POST, TICKET = WORK | POST | SHEETS
+    WORK = 7, OPEN = 8, POST = 16, WRITE = 32, READ = 64, SHEET_POST = 128, CLOSE = 256, LOOK = 512,
+    POSTS = POST | SHEET_POST | LOOK, SHEETS = WRITE | READ | SHEET_POST | LOOK, TICKET = WORK | POST | SHEETS
 };
 
 #define FRESH {LEDGER_SIZE, 1, 1, 0, UNPATCHED}
@@ -155,7 +170,7 @@ static void try_example(const struct example *x, const struct call *call)
         lend(slot, NULL, 0);
     make_ledger(ledger, &x->ledger);
     if (x->number == 7)
-        CHECK(call->make(x) == 0, "%s, %s: the first time", call->name, x->words);
+        CHECK(call->mark(x) == 0, "%s, %s: the first time", call->name, x->words);
     int64_t answer = call->make(x);
     CHECK(answer == -x->number, "%s, %s: the answer is %" PRId64 " and not -%d", call->name, x->words, answer, x->number);
     for (int slot = 0; slot < SLOTS; slot++)
