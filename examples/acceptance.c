@@ -6,10 +6,18 @@
  * is opened before the work: one that cannot be written is known at once.
  *
  * In each row every fourth ticket comes as a supplier's: it is written into a
- * sheet, the sheet is read back, and posted as a whole. The others are worked
- * and posted one by one. With --halves each of these is worked by two
- * processes, a half by each, and posted with the sum of both: the ledger and
- * the closing line are the same.
+ * sheet, the sheet is read back, looked at beside the ledger, and posted as a
+ * whole. The others are worked and posted one by one. With --halves each of
+ * these is worked by two processes, a half by each, and posted with the sum of
+ * both: the ledger and the closing line are the same.
+ *
+ * The look is before the post: a sheet that would be refused ends the program
+ * with nothing of it posted. What the look answered is shown with the progress,
+ * on standard error where that is a terminal, a line for each sheet:
+ *
+ *     look at the sheet of row 0: 31 of 35 tickets would remain
+ *
+ * Check runs have no look; their sheets are posted without one.
  *
  * With --check a check run with the same position and block count is worked and
  * closed after that run, and two more lines are printed. The first of them is
@@ -128,6 +136,20 @@ static void inspect(const struct run *run, const uint8_t *sheet, size_t sheet_le
     }
 }
 
+/* Shows how many tickets would remain; a sheet that would be refused ends the program. */
+static void look_at(struct run *run, uint64_t row, const uint8_t *sheet, size_t sheet_len)
+{
+    const struct kind *kind = run->kind;
+    uint8_t total[BBP_TOTAL_SIZE];
+    int64_t answer = kind->look(run->ledger, kind->ledger_size, sheet, sheet_len, total, sizeof total);
+    int64_t remaining = run_finished(run, "look", answer);
+    if (!run->bar.on)
+        return;
+    progress_end_line(&run->bar);
+    fprintf(stderr, "look at the sheet of row %" PRIu64 ": %" PRId64 " of %" PRIu64 " tickets would remain\n", row, remaining,
+            kind->rows * run->c);
+}
+
 static void order_and_post(struct run *run, uint64_t row)
 {
     const struct kind *kind = run->kind;
@@ -136,6 +158,8 @@ static void order_and_post(struct run *run, uint64_t row)
     int64_t answer = kind->sheet_write(run->p, run->c, list, list_len, sheet, sizeof sheet);
     size_t sheet_len = (size_t)run_finished(run, "sheet write", answer);
     inspect(run, sheet, sheet_len, list, list_len);
+    if (kind->look != NULL)
+        look_at(run, row, sheet, sheet_len);
     run_finished(run, "sheet post", kind->sheet_post(run->ledger, kind->ledger_size, sheet, sheet_len));
     tickets_done(run, list_len / 2);
 }

@@ -11,6 +11,7 @@ struct progress {
     int on;
     uint64_t all;
     double began, shown;
+    int unended; /* the bar stands at the end of the output, with no newline after it */
 };
 
 static double progress_clock(void)
@@ -22,8 +23,16 @@ static double progress_clock(void)
 
 static struct progress progress_start(uint64_t all)
 {
-    struct progress bar = {isatty(STDERR_FILENO), all, progress_clock(), 0};
+    struct progress bar = {isatty(STDERR_FILENO), all, progress_clock(), 0, 0};
     return bar;
+}
+
+/* What is shown next, the bar or words, is on a line of its own. */
+static void progress_end_line(struct progress *bar)
+{
+    if (bar->unended)
+        fputc('\n', stderr);
+    bar->unended = 0;
 }
 
 /* The time left, if the rest takes as long for each ticket as those done so far. */
@@ -39,8 +48,9 @@ static void progress_show(struct progress *bar, uint64_t done)
     for (uint64_t i = 0; i < WIDTH; i++)
         fputc(i * bar->all < done * WIDTH ? '#' : '.', stderr);
     fprintf(stderr, "] %3u%%  %.0f s spent, %.0f s left   ", (unsigned)(100 * done / bar->all), spent, left);
+    bar->unended = 1;
     if (done == bar->all)
-        fputc('\n', stderr);
+        progress_end_line(bar);
 }
 
 #endif

@@ -1,7 +1,7 @@
 #!/usr/bin/env bash
 # examples.sh MINIMAL ACCEPTANCE - the examples, run: digits of pi at 1 and 1,000, refusals, arguments that are no
-# numbers, output that cannot be written, tickets worked by halves, check runs beside the others, ledgers of both kinds
-# kept and their rows shown, and the bytes that docs/FORMATS.md shows.
+# numbers, output that cannot be written, sheets looked at before they are posted, tickets worked by halves, check runs
+# beside the others, ledgers of both kinds kept and their rows shown, and the bytes that docs/FORMATS.md shows.
 # ENGINE is the library that they are built with.
 set -u
 minimal=$1
@@ -56,7 +56,7 @@ for call in open work post close; do
     refusing examples/minimal.c bbp_$call
     same "what minimal says of $call" "$said" "refused 7"
 done
-for call in open work post sheet_write sheet_read sheet_post close; do
+for call in open work post sheet_write sheet_read look sheet_post close; do
     refusing examples/acceptance.c bbp_$call 1000 5
     same "what acceptance says of $call" "$said" "${call/_/ }: refused 7: ticket marked already"
     ends 1 "$scratch/refusing" --check 1000 5
@@ -243,6 +243,37 @@ halves() {
     failing "fork: Resource temporarily unavailable" '#define fork() (errno = EAGAIN, (pid_t)-1)'
     stopped TERM 143 1 "$acceptance" --halves 1152921504606846976 1
     stopped KILL 137 1 "$acceptance" --halves 1152921504606846976 1
+}
+
+# looks C - the lines of the looks: with a row's sheet, all tickets of this row and of those before it are posted.
+looks() {
+    local row
+    for row in $rows; do
+        echo "look at the sheet of row $row: $(((6 - row) * $1)) of $((7 * $1)) tickets would remain"
+    done
+}
+
+# Where standard error is taken for a terminal, a line for each sheet of a Bellard run, and otherwise bars alone. Elsewhere
+# nothing is said. Each sheet is looked at before it is posted, but for those of check runs.
+looking() {
+    local run bar='^'$'\r''\[[#.]* *[0-9]*%  [0-9]* s spent, [0-9]* s left   '
+    wrapped seen examples/acceptance.c '#include <unistd.h>' '#define isatty(file) 1'
+    for run in '1 1' '1 3' '1 14' '1000 5' '1000 256'; do
+        prints 0 "$("$acceptance" $run)" "$scratch/seen" $run
+        same "what is said of the looks of $run" "$(grep -a '^look' <<<"$said")" "$(looks ${run#* })"
+        same "what else is said of $run" "$(grep -a -v -e '^look' -e "$bar" <<<"$said")" ""
+    done
+    prints 0 "$both" "$scratch/seen" --check --halves 1000 5
+    same "what is said of the looks beside a check run" "$(grep -a '^look' <<<"$said")" "$(looks 5)"
+    prints 0 "$line" "$acceptance" 1000 5
+    same "what a run says" "$said" ""
+    wrapped before examples/acceptance.c 'static const uint8_t *seen;' "$(instead bbp_look "(seen = sheet, $(call bbp_look))")" \
+        "$(instead bbp_sheet_post "sheet == seen ? (seen = NULL, $(call bbp_sheet_post)) : -3")"
+    prints 0 "$both" "$scratch/before" --check 1000 5
+    # A sheet that would be refused is not posted.
+    wrapped stopped examples/acceptance.c "$(instead bbp_look -7)" "$(instead bbp_sheet_post -3)"
+    ends 1 "$scratch/stopped" 1000 5
+    same "what is said of a sheet that would be refused" "$said" "look: refused 7: ticket marked already"
 }
 
 # The run without --check stays as it is, line and ledger; the check run's ledger is the one that docs/FORMATS.md shows.
@@ -479,6 +510,7 @@ bad_rows() {
     refused_calls '' '' "$full"
 }
 
+looking
 halves
 keeping
 checked

@@ -50,8 +50,8 @@ same "acceptance --halves 1000" "$("$scratch/acceptance" --halves 1000)" "1000 2
 cat >"$scratch/version.c" <<'END'
 #include <bbp.h>
 #include <stdio.h>
-#if BBP_VERSION < 3000000
-#error "older than the closing by charged terms"
+#if BBP_VERSION < 3001000
+#error "older than the look"
 #endif
 int main(void) { printf("%s %ld\n", BBP_VERSION_STRING, (long)BBP_VERSION); return 0; }
 END
