@@ -168,6 +168,12 @@ static void read_sheet(void)
     finished("sheet read", bbp_sheet_read(sheet, sizeof sheet, read_list, sizeof read_list, read_sums, sizeof read_sums));
 }
 
+static void look_at_sheet(void)
+{
+    uint8_t total[BBP_TOTAL_SIZE];
+    finished("look", bbp_look(ledger, sizeof ledger, sheet, sizeof sheet, total, sizeof total));
+}
+
 static void post_sheet(void)
 {
     finished("sheet post", bbp_sheet_post(ledger, sizeof ledger, sheet, sizeof sheet));
@@ -183,8 +189,8 @@ static void nothing(void)
 {
 }
 
-/* Prints the time of one call, of so many that `calls` makes. */
-static void time_calls(const char *what, int count, void (*before)(void), void (*calls)(void))
+/* Prints the time of one call, of so many that `calls` makes, and gives it. */
+static double time_calls(const char *what, int count, void (*before)(void), void (*calls)(void))
 {
     double best = 1e9;
     for (int i = 0; i < 200; i++) {
@@ -194,6 +200,15 @@ static void time_calls(const char *what, int count, void (*before)(void), void (
         best = least(best, seconds() - began);
     }
     printf("%-52s %9.2f us\n", what, 1e6 * best / count);
+    return best / count;
+}
+
+/* Both start from a fresh ledger. What is posted stays. */
+static void compare_look(void)
+{
+    double look = time_calls("looking at a sheet of 1,792 tickets", 1, open_ledger, look_at_sheet);
+    double post = time_calls("posting a sheet of 1,792 tickets", 1, open_ledger, post_sheet);
+    printf("%-52s %9.3f\n", "looking / posting", look / post);
 }
 
 static void compare_books(void)
@@ -204,7 +219,7 @@ static void compare_books(void)
     time_calls("posting one ticket", LEDGERS, open_ledgers, post_one_each);
     time_calls("post of all 1,792 tickets, one by one", 1, open_ledger, post_all);
     time_calls("reading a sheet of 1,792 tickets", 1, nothing, read_sheet);
-    time_calls("posting a sheet of 1,792 tickets", 1, open_ledger, post_sheet);
+    compare_look();
     time_calls("closing a full ledger of C = 256", 1, nothing, close_ledger);
 }
 
