@@ -15,7 +15,7 @@
  * with nothing of it posted. What the look answered is shown with the progress,
  * on standard error where that is a terminal, a line for each sheet:
  *
- *     look at the sheet of row 0: 31 of 35 tickets would remain
+ *     look at the sheet of row 0: 30 of 35 tickets would remain
  *
  * Check runs have no look; their sheets are posted without one.
  *

@@ -256,7 +256,7 @@ looks() {
 # Where standard error is taken for a terminal, a line for each sheet of a Bellard run, and otherwise bars alone. Elsewhere
 # nothing is said. Each sheet is looked at before it is posted, but for those of check runs.
 looking() {
-    local run bar='^'$'\r''\[[#.]* *[0-9]*%  [0-9]* s spent, [0-9]* s left   '
+    local run bar='^'$'\r''\[[#.]*\] *[0-9]*%  [0-9]* s spent, [0-9]* s left   '
     wrapped seen examples/acceptance.c '#include <unistd.h>' '#define isatty(file) 1'
     for run in '1 1' '1 3' '1 14' '1000 5' '1000 256'; do
         prints 0 "$("$acceptance" $run)" "$scratch/seen" $run
