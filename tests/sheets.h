@@ -1,4 +1,4 @@
-/* Cases of sheets for the tests of reading and of posting them. */
+/* Cases of sheets for the tests of reading, posting and looking at them. */
 #ifndef SHEETS_H
 #define SHEETS_H
 
@@ -25,7 +25,7 @@ struct sheet_form {
 };
 void make_sheet(struct sheet *sheet, const struct sheet_form *form);
 
-/* Cases of sheets alone, for reading and for posting: the refusal, or 0 for a sheet that is taken. */
+/* Cases of sheets alone, for reading, posting and looking: the refusal, or 0 for a sheet that is taken. */
 struct sheet_case {
     const char *what;
     int number;

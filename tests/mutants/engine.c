@@ -879,7 +879,7 @@ static int any_marked(const formula *f, const uint8_t *ledger, const uint8_t *sh
     return 0;
 }
 
-/* Refusals 2 to 7 of a post, and those of wrong engines in their place. */
+/* The refusals of a post, and those of wrong engines in their place. */
 static int64_t bad_look(const formula *f, const uint8_t *ledger, size_t ledger_len, const uint8_t *sheet, size_t sheet_len)
 {
     int64_t bad = bad_posting(f, ledger, ledger_len, sheet, sheet_len);
@@ -957,7 +957,8 @@ static int64_t wrongly_refused_look(const formula *f, const uint8_t *ledger, con
 static int bad_total_size(const uint8_t *total, size_t total_len)
 {
     size_t len = output_length(218, total_len);
-    return (len < 16 && !WRONG(188)) || (len > 16 && !WRONG(188) && !WRONG(189)) || unaligned(219, total);
+    int bad = WRONG(188) ? 0 : WRONG(189) ? len < 16 : len != 16;
+    return bad || unaligned(219, total);
 }
 
 static int64_t look(const formula *f, const uint8_t *ledger, size_t ledger_len, const uint8_t *sheet, size_t sheet_len,
