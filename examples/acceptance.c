@@ -12,8 +12,8 @@
  * both: the ledger and the closing line are the same.
  *
  * The look is before the post: a sheet that would be refused ends the program
- * with nothing of it posted. What the look answered is shown with the progress,
- * on standard error where that is a terminal, a line for each sheet:
+ * with nothing of it posted. What the look answered is said on standard error, a
+ * line for each sheet:
  *
  *     look at the sheet of row 0: 30 of 35 tickets would remain
  *
@@ -136,15 +136,13 @@ static void inspect(const struct run *run, const uint8_t *sheet, size_t sheet_le
     }
 }
 
-/* Shows how many tickets would remain; a sheet that would be refused ends the program. */
+/* Says how many tickets would remain; a sheet that would be refused ends the program. */
 static void look_at(struct run *run, uint64_t row, const uint8_t *sheet, size_t sheet_len)
 {
     const struct kind *kind = run->kind;
     uint8_t total[BBP_TOTAL_SIZE];
     int64_t answer = kind->look(run->ledger, kind->ledger_size, sheet, sheet_len, total, sizeof total);
     int64_t remaining = run_finished(run, "look", answer);
-    if (!run->bar.on)
-        return;
     progress_end_line(&run->bar);
     fprintf(stderr, "look at the sheet of row %" PRIu64 ": %" PRId64 " of %" PRIu64 " tickets would remain\n", row, remaining,
             kind->rows * run->c);

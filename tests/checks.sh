@@ -13,13 +13,14 @@ same() {
 }
 
 # prints STATUS TEXT PROGRAM.. - with that status, and the text on standard output; what standard error got is left in
-# `said`.
+# `said`, but for lines of looks, which are left in `looked`.
 prints() {
     local wanted=$1 text=$2 status
     shift 2
     "$@" >"$scratch/out" 2>"$scratch/err"
     status=$?
-    said=$(cat "$scratch/err")
+    looked=$(grep -a '^look at ' "$scratch/err")
+    said=$(grep -a -v '^look at ' "$scratch/err")
     same "the status of $*" "$status" "$wanted"
     same "what $* prints" "$(cat "$scratch/out")" "$text"
 }

@@ -11,16 +11,17 @@ name=examples
 ledger=$scratch/ledger
 digits=349F1C09B075372C980991B7B25D
 line="1000 29 ${digits}4"
+first_line="1 30 243F6A8885A308D313198A2E037073"
 check_line="check 1000 28 $digits"
 both=$line$'\n'$check_line$'\nagree 28 digits'
 out_of_range="refused 2: position or block count out of range"
 wrong_size="a slice of the wrong size"
 
 same minimal "$("$minimal")" "${line##* }"
-same "acceptance 1" "$("$acceptance" 1)" "1 30 243F6A8885A308D313198A2E037073"
-same "acceptance 1 1" "$("$acceptance" 1 1)" "1 30 243F6A8885A308D313198A2E037073"
-same "acceptance 1000 3" "$("$acceptance" 1000 3)" "$line"
-same "acceptance 1000 256" "$("$acceptance" 1000 256)" "$line"
+prints 0 "$first_line" "$acceptance" 1
+prints 0 "$first_line" "$acceptance" 1 1
+prints 0 "$line" "$acceptance" 1000 3
+prints 0 "$line" "$acceptance" 1000 256
 
 for run in 0 '1 0' '1 257' 1152921504606846977 18446744073709551615 '--halves 0' '--halves 1 257' '--check 0' \
     '--check 1 257' '--check 1152921504606846977'; do
@@ -123,7 +124,7 @@ shown() {
 }
 
 keeping() {
-    prints 0 "1 30 243F6A8885A308D313198A2E037073" "$acceptance" --keep "$ledger" 1 14
+    prints 0 "$first_line" "$acceptance" --keep "$ledger" 1 14
     shown '' "$ledger" 352
     same "what is kept of a check run where there is none" "$(ls "$ledger".* 2>/dev/null)" ""
     cp "$ledger" "$scratch/before"
@@ -139,7 +140,7 @@ keeping() {
 full_ledgers() {
     local run
     for run in '1 1' '1 14' '1 256' '1000 1' '1000 5'; do
-        "$acceptance" --keep "$ledger" $run >/dev/null
+        "$acceptance" --keep "$ledger" $run >/dev/null 2>&1
         prints 0 "$(lines ${run% *})" "$acceptance" --rows "$ledger"
         same "what --rows says of a full ledger" "$said" ""
     done
@@ -191,7 +192,7 @@ unfinished_ledgers() {
     prints 0 "$(for row in 0 1 2 3 4 5 6; do echo "row $row ledger $none worked $none"; done | sed "3s/$none/$one/g")" \
         "$acceptance" --rows "$ledger"
     # All marked, every sum 0: closing it is refused with 9.
-    "$acceptance" --keep "$ledger" 1 1 >/dev/null
+    "$acceptance" --keep "$ledger" 1 1 >/dev/null 2>&1
     dd if=/dev/zero of="$ledger" bs=16 seek=1 count=7 conv=notrunc status=none
     prints 3 "$(lines 1 | sed "s/ledger [0-9a-f]*/ledger $none/; s/\$/ differs/")" "$acceptance" --rows "$ledger"
     # Position 2^60, C = 1, row 6 marked: that ticket would not end.
@@ -214,7 +215,7 @@ failing() {
 halves() {
     local run closing failed="the process of an upper half failed" kept=$scratch/kept none_left
     for run in 1 '1 1' '1 14' '2 256' '1000 1' '1000 3' '1000 256' '12345 7'; do
-        closing=$("$acceptance" --keep "$kept" $run)
+        closing=$("$acceptance" --keep "$kept" $run 2>/dev/null)
         prints 0 "$closing" "$acceptance" --halves $run
         same "what --halves says" "$said" ""
         prints 0 "$closing" "$acceptance" --halves --keep "$ledger" $run
@@ -253,20 +254,23 @@ looks() {
     done
 }
 
-# Where standard error is taken for a terminal, a line for each sheet of a Bellard run, and otherwise bars alone. Elsewhere
-# nothing is said. Each sheet is looked at before it is posted, but for those of check runs.
+# A line for each sheet of a Bellard run, and on a terminal bars between them. Each sheet is looked at before it is posted,
+# but for those of check runs.
 looking() {
-    local run bar='^'$'\r''\[[#.]*\] *[0-9]*%  [0-9]* s spent, [0-9]* s left   '
+    local run closing bar='^'$'\r''\[[#.]*\] *[0-9]*%  [0-9]* s spent, [0-9]* s left   '
     wrapped seen examples/acceptance.c '#include <unistd.h>' '#define isatty(file) 1'
     for run in '1 1' '1 3' '1 14' '1000 5' '1000 256'; do
-        prints 0 "$("$acceptance" $run)" "$scratch/seen" $run
-        same "what is said of the looks of $run" "$(grep -a '^look' <<<"$said")" "$(looks ${run#* })"
-        same "what else is said of $run" "$(grep -a -v -e '^look' -e "$bar" <<<"$said")" ""
+        case $run in '1 '*) closing=$first_line ;; *) closing=$line ;; esac
+        prints 0 "$closing" "$acceptance" $run
+        same "the looks of $run" "$looked" "$(looks ${run#* })"
+        same "what else is said of $run" "$said" ""
+        prints 0 "$closing" "$scratch/seen" $run
+        same "the looks of $run on a terminal" "$looked" "$(looks ${run#* })"
+        same "what else is said of $run on a terminal" "$(grep -a -v -e "$bar" <<<"$said")" ""
     done
-    prints 0 "$both" "$scratch/seen" --check --halves 1000 5
-    same "what is said of the looks beside a check run" "$(grep -a '^look' <<<"$said")" "$(looks 5)"
-    prints 0 "$line" "$acceptance" 1000 5
-    same "what a run says" "$said" ""
+    prints 0 "$both" "$acceptance" --check --halves 1000 5
+    same "the looks beside a check run" "$looked" "$(looks 5)"
+    same "what else is said beside a check run" "$said" ""
     wrapped before examples/acceptance.c 'static const uint8_t *seen;' "$(instead bbp_look "(seen = sheet, $(call bbp_look))")" \
         "$(instead bbp_sheet_post "sheet == seen ? (seen = NULL, $(call bbp_sheet_post)) : -3")"
     prints 0 "$both" "$scratch/before" --check 1000 5
@@ -282,7 +286,7 @@ checked() {
     both_1="1 30 ${digits_1}3"$'\n'"check 1 29 $digits_1"$'\nagree 29 digits'
     for run in 1 '1 1' '1 33' '1 256'; do prints 0 "$both_1" "$acceptance" --check $run; done
     for run in 1000 '1000 1' '1000 5' '1000 256'; do prints 0 "$both" "$acceptance" --check $run; done
-    "$acceptance" --keep "$kept" 1 33 >/dev/null
+    "$acceptance" --keep "$kept" 1 33 >/dev/null 2>&1
     for options in "--check $keep" "$keep --check" "--check --halves $keep" "--check $keep --halves" "--halves --check $keep" \
         "--halves $keep --check" "$keep --check --halves" "$keep --halves --check"; do
         rm -f "$ledger" "$ledger.check"
@@ -404,7 +408,7 @@ old_ledger() {
 
 refused_ledgers() {
     local full=$scratch/full size byte
-    "$acceptance" --keep "$full" 1 1 >/dev/null
+    "$acceptance" --keep "$full" 1 1 >/dev/null 2>&1
     for size in 0 1 256 351; do
         head -c $size "$full" >"$ledger"
         ends 1 "$acceptance" --rows "$ledger"
@@ -436,7 +440,7 @@ refused_ledgers() {
 check_ledgers() {
     local check=$ledger.check none=00000000000000000000000000000000 run row
     for run in '1 1' '1 33' '1 256' '1000 1' '1000 5'; do
-        "$acceptance" --check --keep "$ledger" $run >/dev/null
+        "$acceptance" --check --keep "$ledger" $run >/dev/null 2>&1
         prints 0 "$(check_rows lines ${run% *})" "$acceptance" --rows "$check"
     done
     same "--rows of standard input" "$("$acceptance" --rows - <"$check")" "$(check_rows lines 1000)"
@@ -474,7 +478,7 @@ refused_calls() {
 
 refused_check_ledgers() {
     local full=$scratch/full check=$scratch/check size byte
-    "$acceptance" --check --keep "$full" 1 1 >/dev/null
+    "$acceptance" --check --keep "$full" 1 1 >/dev/null 2>&1
     for size in 207 209; do
         { cat "$full.check"; printf '\0'; } | head -c $size >"$check"
         ends 1 "$acceptance" --rows "$check"
