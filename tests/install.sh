@@ -44,8 +44,8 @@ built acceptance ${CC:-gcc} -std=c99 $strict examples/acceptance.c
 digits=349F1C09B075372C980991B7B25D4
 same "minimal" "$("$scratch/minimal")" "$digits"
 same "minimal in C++" "$("$scratch/minimal_cc")" "$digits"
-same "acceptance 1000" "$("$scratch/acceptance" 1000)" "1000 29 $digits"
-same "acceptance --halves 1000" "$("$scratch/acceptance" --halves 1000)" "1000 29 $digits"
+prints 0 "1000 29 $digits" "$scratch/acceptance" 1000
+prints 0 "1000 29 $digits" "$scratch/acceptance" --halves 1000
 
 cat >"$scratch/version.c" <<'END'
 #include <bbp.h>

@@ -3,7 +3,6 @@
 -- Assumes nothing.
 use mathlib.Core.Path.{_≡_, refl, sym, ap, ap₂, _∙_}
 use mathlib.Core.Bool.{Bool, true, false, cond, _&&_}
-use mathlib.Core.Logic.{_≢_}
 use mathlib.Core.List.{List, [], _∷_, foldl}
 use Prim.Native.Nat.{ℕ, zero, suc, _+_, _*_, _≤_}
 use native.Mathlib.Nat.{zero-add, add-zero}
@@ -18,12 +17,12 @@ use Rattle.algebra.proofs.Sums.{sum-ext, sum-add, sum-none, sum-next, sum-bump}
 use Rattle.algebra.proofs.Below.{all-ext}
 use Rattle.run.specs.Run.{Limits, isTicket}
 use Rattle.run.proofs.Range.{ticket-row, ticket-block, is-ticket}
-use Rattle.ledger.specs.Ledger.{View, viewOf, blocksIn, bitIn, markIn}
+use Rattle.ledger.specs.Ledger.{View, viewOf, blocksIn, bitIn}
 use Rattle.ledger.specs.Plain.{Plain, Entry, plainView, admit, including}
 use Rattle.ledger.proofs.Image.{including-here, including-else}
 use Rattle.ledger.proofs.Posting.{mark-is-bit}
 use Rattle.sheet.proofs.Simulation.{Ready}
-use Rattle.look.specs.Look.{unmarkedOf, unmarkedIn}
+use Rattle.look.specs.Look.{unmarkedOf}
 use Rattle.look.specs.AsPosting.{marksOf, AllLessMarks}
 use Rattle.look.specs.Marks.{rowMarks, marksBelow}
 

@@ -1,8 +1,8 @@
 -- What a post of a sheet that is taken leaves: the bytes of a plain ledger with the sheet's tickets in it, their number of unmarked tickets and
 -- their total.
 -- Assumes nothing.
-use mathlib.Core.Path.{_≡_, refl, sym, ap, ap₂, subst, _∙_}
-use mathlib.Core.List.{List, [], _∷_, _++_, foldl, foldl-append}
+use mathlib.Core.Path.{_≡_, sym, ap, ap₂, subst, _∙_}
+use mathlib.Core.List.{List, [], _∷_, foldl, foldl-append}
 use Prim.Native.Nat.{ℕ, zero, suc, _+_, _*_, _%_, _^_, _<_, _≤_}
 use native.Mathlib.Nat.{add-assoc, add-zero, zero-add, mod-add-mod, mod-mod}
 use native.Mathlib.Numerals.{add-one}

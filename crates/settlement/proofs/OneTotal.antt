@@ -4,7 +4,7 @@
 use mathlib.Core.Path.{_≡_, refl, sym, ap, ap₂, _∙_}
 use mathlib.Core.Bool.{Bool, true, false, cond}
 use mathlib.Core.List.{List, [], _∷_, foldl}
-use Prim.Native.Nat.{ℕ, _+_, _%_, _^_, _<_}
+use Prim.Native.Nat.{ℕ, _%_, _^_, _<_}
 use borrow.Author.Tests.{eqb-true}
 use lib.Dec.{eqb}
 use lib.IntN.{ℤ}
@@ -15,7 +15,7 @@ use Rattle.run.specs.Refusal.{answer}
 use Rattle.run.specs.Run.{Limits, limitsOf, inRange}
 use Rattle.run.proofs.Range.{ticket-row}
 use Rattle.ledger.specs.Ledger.{View, viewOf, ledgerSize, totalOf, totalIn}
-use Rattle.ledger.specs.Plain.{Plain, Entry, plainView, opened, admit, including, adding}
+use Rattle.ledger.specs.Plain.{Plain, Entry, plainView, opened, admit, including}
 use Rattle.ledger.proofs.RowSums.{total-adding}
 use Rattle.ledger.proofs.Image.{total-encode}
 use Rattle.sheet.specs.Posts.{Post, postRefusal, postEntries, plainPost, plainPosts, plainAnswer, plainAnswers}

@@ -4,11 +4,10 @@
 use mathlib.Core.Path.{_≡_, refl, sym}
 use mathlib.Core.Bool.{Bool, true, false, cond, _&&_}
 use mathlib.Core.List.{List, [], _∷_}
-use Prim.Native.Nat.{ℕ, zero, suc, _≤_}
+use Prim.Native.Nat.{ℕ, _≤_}
 use native.Mathlib.Omega.{arith}
 use borrow.Author.Tests.{leb-true}
 use lib.Dec.{eqb, leb}
-use lib.IntN.{pos, negℤ}
 use Rattle.algebra.proofs.Booleans.{and-left, and-right}
 use Rattle.series.specs.Series.{Formula}
 use Rattle.run.specs.Refusal.{Test, refusal, answer}
