@@ -245,13 +245,12 @@ static void every_total_size(void)
 /* The size of the total counts before all that a post is refused with. */
 static void refused_with_a_wrong_total(void)
 {
-    static const int kinds[] = {3, 8, 12, SHEET_KINDS + 4, SHEET_KINDS + 7, SHEET_KINDS + 10};
     for (size_t len = 0; len <= TOTAL_ROOM; len++)
-        for (int i = 0; len != TOTAL_SIZE && i < 6; i++) {
+        for (int kind = 0; len != TOTAL_SIZE && kind < POSTING_KINDS; kind++) {
             prepare();
-            damage(kinds[i]);
+            damage(kind);
             total_len = len;
-            CHECK(compare() == -1, "damage %d and a total of %zu bytes", kinds[i], len);
+            CHECK(compare() == -1, "damage %d and a total of %zu bytes", kind, len);
         }
 }
 

@@ -63,7 +63,7 @@ unfolding sum
 sum-same d first zero = omega arith
 sum-same d first (suc c) = let a = sum-same d first c in omega (arith, a)
 
-one-of-two : (b : Bool) → cond b 0 1 + cond b 1 0 ≡ 1
+one-of-two : (b : Bool) → lacking b + cond b 1 0 ≡ 1
 one-of-two true = refl
 one-of-two false = refl
 
@@ -86,10 +86,10 @@ module _ (lim : Limits) where
   unfolding unmarkedOf marksOf
   all-less-marks v =
       let m = v .marked in
-      let row-of : (row : ℕ) → sum (λ block. cond (m row block) 0 1) 0 (v .C) + sum (λ block. cond (m row block) 1 0) 0 (v .C) ≡ v .C =
-      λ row. sym (sum-add (λ block. cond (m row block) 0 1) (λ block. cond (m row block) 1 0) 0 (v .C))
+      let row-of : (row : ℕ) → sum (λ block. lacking (m row block)) 0 (v .C) + sum (λ block. cond (m row block) 1 0) 0 (v .C) ≡ v .C =
+      λ row. sym (sum-add (λ block. lacking (m row block)) (λ block. cond (m row block) 1 0) 0 (v .C))
       ∙ sum-ext _ (λ block. 1) 0 (v .C) (λ block l u. one-of-two (m row block)) ∙ sum-same 1 0 (v .C) ∙ omega arith in
-      sym (sum-add (λ row. sum (λ block. cond (m row block) 0 1) 0 (v .C)) (λ row. sum (λ block. cond (m row block) 1 0) 0 (v .C)) 0 (lim .rows))
+      sym (sum-add (λ row. sum (λ block. lacking (m row block)) 0 (v .C)) (λ row. sum (λ block. cond (m row block) 1 0) 0 (v .C)) 0 (lim .rows))
       ∙ sum-ext _ (λ row. v .C) 0 (lim .rows) (λ row l u. row-of row) ∙ sum-same (v .C) 0 (lim .rows)
 
   -- ---- tickets go in

@@ -1,5 +1,5 @@
--- What a post of a sheet that is taken leaves: the bytes of a plain ledger with the sheet's tickets in it, their number of unmarked tickets and
--- their total.
+-- What a post of a sheet that is taken leaves: the bytes of a plain ledger with the sheet's tickets in it. How many tickets are unmarked in that ledger,
+-- and its total.
 -- Assumes nothing.
 use mathlib.Core.Path.{_≡_, sym, ap, ap₂, subst, _∙_}
 use mathlib.Core.List.{List, [], _∷_, foldl, foldl-append}

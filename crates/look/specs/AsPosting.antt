@@ -1,4 +1,4 @@
--- A look equals posting onto a copy of the ledger, for every ledger and sheet. Over the definitions of the two calls. Document 02, slip 6.
+-- A look beside a post of the same sheet, whatever ledger and sheet are lent: over the definitions of the two calls. Document 02, slip 6.
 use mathlib.Core.Path.{_≡_}
 use mathlib.Core.Bool.{cond}
 use mathlib.Core.List.{List}

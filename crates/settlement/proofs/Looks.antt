@@ -116,7 +116,7 @@ module _ (F : Formula) (fits : F .last < 2 ^ 64) (ledger s total digits : List �
   zero-where-full : (lookAnswer lim ledger s total ≡ pos 0 → closeAnswer F (sheetBytes lim ledger s) digits ≡ negℤ (pos 8) → ⊥)
       × ((closeAnswer F (sheetBytes lim ledger s) digits ≡ negℤ (pos 8) → ⊥) → lookAnswer lim ledger s total ≡ pos 0)
   zero-where-full = (
-    λ e. not-eight (let z : rest ≡ 0 = same (sym looks ∙ e) in z),
+    λ e. not-eight (same (sym looks ∙ e)),
     λ f. looks ∙ ap pos (none-remain f),
   )
     where

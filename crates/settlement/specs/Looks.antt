@@ -95,21 +95,21 @@ pub record Looks (F : Formula) : Type 0 where
 
 -- ---- looks that are taken, and one that is not: Bellard's run p = 1, C = 1
 
--- a ticket of block 0
+-- a row's ticket of block 0
 abbrev pub ofRow : ℕ → ℕ → Entry
 ofRow row sum = record { row = row; block = 0; sum = sum }
 
-abbrev pub some : List ℕ
-some = sheetOf 1 1 (ofRow 0 (2 ^ 128 - 1) ∷ ofRow 6 3 ∷ [])
+abbrev pub twoTickets : List ℕ
+twoTickets = sheetOf 1 1 (ofRow 0 (2 ^ 128 - 1) ∷ ofRow 6 3 ∷ [])
 
-abbrev pub others : List ℕ
-others = sheetOf 1 1 (ofRow 1 10 ∷ ofRow 2 20 ∷ ofRow 3 30 ∷ ofRow 4 40 ∷ ofRow 5 50 ∷ [])
+abbrev pub fiveOthers : List ℕ
+fiveOthers = sheetOf 1 1 (ofRow 1 10 ∷ ofRow 2 20 ∷ ofRow 3 30 ∷ ofRow 4 40 ∷ ofRow 5 50 ∷ [])
 
 -- no ticket on an empty sheet: all 7 remain; two would leave 5, and do; the five others would leave none; the two again are refused
 abbrev pub someSteps : List Step
 someSteps =
-    looking (sheetOf 1 1 []) (replicate 16 0) ∷ looking some (replicate 16 0) ∷ posting (sheet some) ∷ looking (sheetOf 1 1 []) (replicate 16 0)
-    ∷ looking others (replicate 16 0) ∷ looking some (replicate 16 0) ∷ []
+    looking (sheetOf 1 1 []) (replicate 16 0) ∷ looking twoTickets (replicate 16 0) ∷ posting (sheet twoTickets) ∷ looking (sheetOf 1 1 []) (replicate 16 0)
+    ∷ looking fiveOthers (replicate 16 0) ∷ looking twoTickets (replicate 16 0) ∷ []
 
 abbrev pub LooksTaken : Type 0
 LooksTaken =
