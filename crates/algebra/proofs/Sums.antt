@@ -3,7 +3,7 @@
 use mathlib.Core.Path.{_≡_, refl, sym, ap, ap₂, subst, _∙_}
 use mathlib.Core.Logic.{_≢_, ⊎-elim}
 use Prim.Native.Nat.{ℕ, zero, suc, _+_, _*_, _%_, _≤_, _<_}
-use native.Mathlib.Nat.{add-zero, add-suc, add-assoc, zero-add, le-refl, mul-zero, not-suc-le-zero}
+use native.Mathlib.Nat.{add-zero, add-suc, add-assoc, zero-add, le-refl, mul-zero, mod-add-mod, not-suc-le-zero}
 use native.Mathlib.Numerals.{add-one}
 use native.Mathlib.Omega.{arith}
 use Rattle.algebra.specs.Sum.{sum}
@@ -51,6 +51,12 @@ sum-none f first = refl
 pub sum-next : (f : ℕ → ℕ) (first c : ℕ) → sum f first (c + 1) ≡ sum f first c + f (first + c)
 unfolding sum
 sum-next f first c = ap (sum f first) (add-one c)
+
+-- the same of a total that is reduced at each turn, from a on
+pub total-next : (n : ℕ) (v : ℕ → ℕ) (a i t u : ℕ) → t ≡ (a + sum v 0 i) % n → u ≡ (t + v i) % n → u ≡ (a + sum v 0 (i + 1)) % n
+total-next n v a i t u et eu =
+    eu ∙ ap (λ (k : ℕ). (k + v i) % n) et ∙ mod-add-mod (a + sum v 0 i) n (v i)
+    ∙ ap (λ (k : ℕ). k % n) (add-assoc a (sum v 0 i) (v i) ∙ ap (λ (k : ℕ). a + k) (sym (sum-next v 0 i ∙ ap (λ (k : ℕ). sum v 0 i + v k) (zero-add i))))
 
 pub sum-zero : (f : ℕ → ℕ) (first count : ℕ) → ((k : ℕ) → f k ≡ 0) → sum f first count ≡ 0
 unfolding sum

@@ -5,7 +5,7 @@ use mathlib.Core.Bool.{Bool, true, false, cond}
 use mathlib.Core.Logic.{_≢_}
 use mathlib.Core.List.{List, [], _++_, append-nil, append-assoc}
 use Prim.Native.Nat.{ℕ, zero, suc, _+_, _*_, _-_, _/_, _%_, _^_, _≤_, _<_}
-use native.Mathlib.Nat.{add-zero, zero-add, suc-add, add-suc, mod-add-mod, mod-lt}
+use native.Mathlib.Nat.{add-zero, zero-add, suc-add, add-suc, mod-lt}
 use native.Mathlib.Omega.{arith}
 use borrow.Author.Tests.{eq-eqb, ne-eqb, eqb-true, eqb-false, lt-ltb, le-ltb, ltb-true, ltb-false}
 use lib.Dec.{eqb, ltb}
@@ -13,7 +13,7 @@ use lib.Pow.{pow-pos}
 use lib.ListN.{length, getD, set, take, drop, replicate, replicate-append-replicate, length-append, take-append-drop}
 use lib.Seq.{length-take-le, take-at, drop-at, drop-append-add, drop-drop, getD-drop, getD-set-same, getD-set-other, take-set-le, drop-set-add}
 use Rattle.algebra.specs.Sum.{sum}
-use Rattle.algebra.proofs.Sums.{sum-ext, sum-zero, sum-split, sum-next, sum-bump-rem}
+use Rattle.algebra.proofs.Sums.{sum-ext, sum-zero, sum-split, sum-bump-rem}
 use Rattle.words.specs.Words.{joined}
 use Rattle.words.specs.declared.Wide.{Wide}
 use Rattle.words.specs.Bytes.{bytesOf, field, AllBytes}
@@ -256,13 +256,9 @@ one-put s t u v row h et eu =
     (append-assoc (take 16 s) (sumRows v 0 row) (bytesOf 16 (v row)) ∙ ap (λ (l : List ℕ). take 16 s ++ l) (sym (rows-next v row)))
 
 -- the loop that adds them up
-pub none-totalled : (v : ℕ → ℕ) → joined 0 0 ≡ sum v 0 0 % modulus
+pub none-totalled : (v : ℕ → ℕ) → joined 0 0 ≡ (0 + sum v 0 0) % modulus
 unfolding joined sum
 none-totalled v = refl
-
-pub one-totalled : (v : ℕ → ℕ) (row t u : ℕ) → t ≡ sum v 0 row % modulus → u ≡ (t + v row) % modulus → u ≡ sum v 0 (row + 1) % modulus
-one-totalled v row t u et eu =
-    eu ∙ ap (λ (n : ℕ). (n + v row) % modulus) et ∙ mod-add-mod (sum v 0 row) modulus (v row) ∙ ap (λ (n : ℕ). n % modulus) (sym (sum-next v 0 row ∙ ap (λ (k : ℕ). sum v 0 row + v k) (zero-add row)))
 
 -- their total: past the rows there is nothing to add
 pub total-held : (lim : Limits) (s : List ℕ) (v : ℕ → ℕ) → lim .rows ≤ 7 → ((row : ℕ) → v row ≡ heldIn (lim .rows) s row)

@@ -4,14 +4,14 @@
 use mathlib.Core.Path.{_≡_, sym, ap, ap₂, subst, _∙_}
 use mathlib.Core.List.{List, [], _∷_, foldl, foldl-append}
 use Prim.Native.Nat.{ℕ, zero, suc, _+_, _*_, _%_, _^_, _<_, _≤_}
-use native.Mathlib.Nat.{add-assoc, add-zero, zero-add, mod-add-mod, mod-mod}
+use native.Mathlib.Nat.{add-zero, mod-mod}
 use native.Mathlib.Numerals.{add-one}
 use native.Mathlib.Omega.{arith}
 use borrow.Author.Tests.{eqb-true}
 use lib.IntN.{pos}
 use lib.ListN.{length}
 use Rattle.algebra.specs.Sum.{sum}
-use Rattle.algebra.proofs.Sums.{sum-next}
+use Rattle.algebra.proofs.Sums.{total-next}
 use Rattle.algebra.proofs.Below.{all-at}
 use Rattle.words.specs.Bytes.{field, AllBytes}
 use Rattle.series.specs.Series.{modulus}
@@ -55,11 +55,6 @@ is-taken lim ledger b e =
 abbrev pub bodyAt : List ℕ → ℕ → ℕ → ℕ
 bodyAt b e i = field b (16 + 4 * e + 16 * i) 16
 
--- one sum more, and the total reduced again
-one-more : (first s x y : ℕ) → x ≡ y → ((first + s) % modulus + x) % modulus ≡ (first + (s + y)) % modulus
-one-more first s x y e =
-    mod-add-mod (first + s) modulus x ∙ ap (λ (n : ℕ). (first + s + n) % modulus) e ∙ ap (λ (n : ℕ). n % modulus) (add-assoc first s y)
-
 -- the loop that adds the sums to a total that is below 2 ^ 128
 pub total-start : (b : List ℕ) (e first n : ℕ) → first ≡ n % modulus → first ≡ (first + sum (bodyAt b e) 0 0) % modulus
 unfolding sum
@@ -69,8 +64,7 @@ total-start b e first n h =
 pub total-turn : (b : List ℕ) (e first i t x u : ℕ) → t ≡ (first + sum (bodyAt b e) 0 i) % modulus → x ≡ bodyAt b e i → u ≡ (t + x) % modulus
     → u ≡ (first + sum (bodyAt b e) 0 (i + 1)) % modulus
 total-turn b e first i t x u et ex eu =
-    eu ∙ ap (λ (k : ℕ). (k + x) % modulus) et ∙ one-more first (sum (bodyAt b e) 0 i) x _ (ex ∙ ap (bodyAt b e) (sym (zero-add i)))
-    ∙ ap (λ (k : ℕ). (first + k) % modulus) (sym (sum-next (bodyAt b e) 0 i))
+    total-next modulus (bodyAt b e) first i t u et (eu ∙ ap (λ (k : ℕ). (t + k) % modulus) ex)
 
 module _ (lim : Limits) (fits : lim .last < 2 ^ 64) (ledger b : List ℕ) (bytes : AllBytes ledger) (taken : sheetAnswer lim ledger b ≡ pos 0) where
   holds : Held lim ledger b
@@ -95,11 +89,11 @@ module _ (lim : Limits) (fits : lim .last < 2 ^ 64) (ledger b : List ℕ) (bytes
   unmarked-left : unmarkedIn lim ledger ≡ unmarkedIn lim (sheetBytes lim ledger b) + sheetCount b
   unfolding all-in entries
   unmarked-left =
-      ap (λ (l : List ℕ). unmarkedIn lim l) (sym (holds .again)) ∙ ap (unmarkedOf lim) (view-encode lim (decode lim ledger) (holds .good))
+      ap (unmarkedIn lim) (sym (holds .again)) ∙ ap (unmarkedOf lim) (view-encode lim (decode lim ledger) (holds .good))
       ∙ unmarked-all lim (decode lim ledger) (entries b) ready
       ∙ ap (λ (n : ℕ). unmarkedOf lim (plainView all-in) + n) (count-entries b (sheetCount b) 0)
       ∙ ap (λ (n : ℕ). n + sheetCount b)
-      (ap (unmarkedOf lim) (sym (view-encode lim all-in (leaves .1))) ∙ ap (λ (l : List ℕ). unmarkedIn lim l) (sym (leaves .0)))
+      (ap (unmarkedOf lim) (sym (view-encode lim all-in (leaves .1))) ∙ ap (unmarkedIn lim) (sym (leaves .0)))
 
   -- all tickets of the run: those that would remain, the sheet's, and those marked before
   pub all-tickets : (r C e m : ℕ) → r ≡ lim .rows → C ≡ blocksIn ledger → e ≡ sheetCount b → m ≡ marksBelow lim ledger C (lim .rows)
@@ -130,9 +124,9 @@ module _ (lim : Limits) (fits : lim .last < 2 ^ 64) (ledger b : List ℕ) (bytes
       let next =
       ap (λ (n : ℕ). foldl admit (decode lim ledger) (entriesFrom b 0 n)) (sym (add-one i)) ∙ ap (foldl admit (decode lim ledger)) (entries-next b i)
       ∙ foldl-append admit (decode lim ledger) (entriesFrom b 0 i) (entry b i ∷ []) in
-      ap (λ (s : Plain). totalOf lim (s .sums)) next ∙ total-adding lim (rowIn b i) (sumIn b i) (after i .sums) (row-in i (omega arith))
-      ∙ ap (λ (n : ℕ). (n + sumIn b i) % modulus) (total-after i (omega arith))
-      ∙ one-more (totalIn lim ledger) (sum (sumIn b) 0 i) (sumIn b i) (sumIn b (0 + i)) (ap (sumIn b) (sym (zero-add i)))
+      total-next modulus (sumIn b) (totalIn lim ledger) i _ _ (total-after i (omega arith))
+      (ap (λ (s : Plain). totalOf lim (s .sums)) next ∙ total-adding lim (rowIn b i) (sumIn b i) (after i .sums) (row-in i (omega arith)))
+      ∙ ap (λ (n : ℕ). (totalIn lim ledger + sum (sumIn b) 0 n) % modulus) (add-one i)
 
   pub total-left : (e first t : ℕ) → e ≡ sheetCount b → first ≡ totalIn lim ledger → t ≡ (first + sum (bodyAt b e) 0 e) % modulus
       → t ≡ totalIn lim (sheetBytes lim ledger b)
