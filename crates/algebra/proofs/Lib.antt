@@ -2,6 +2,7 @@ pub mod Booleans
 pub mod Below
 pub mod Cong
 pub mod Sums
+pub mod Bits
 pub mod Integers
 pub mod Newton
 pub mod Montgomery

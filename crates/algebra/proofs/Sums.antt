@@ -2,7 +2,7 @@
 -- Assumes nothing.
 use mathlib.Core.Path.{_≡_, refl, sym, ap, ap₂, subst, _∙_}
 use mathlib.Core.Logic.{_≢_, ⊎-elim}
-use Prim.Native.Nat.{ℕ, zero, suc, _+_, _*_, _%_, _≤_, _<_}
+use Prim.Native.Nat.{ℕ, zero, suc, _+_, _*_, _-_, _%_, _≤_, _<_}
 use native.Mathlib.Nat.{add-zero, add-suc, add-assoc, zero-add, le-refl, mul-zero, mod-add-mod, not-suc-le-zero}
 use native.Mathlib.Numerals.{add-one}
 use native.Mathlib.Omega.{arith}
@@ -58,10 +58,28 @@ total-next n v a i t u et eu =
     eu ∙ ap (λ (k : ℕ). (k + v i) % n) et ∙ mod-add-mod (a + sum v 0 i) n (v i)
     ∙ ap (λ (k : ℕ). k % n) (add-assoc a (sum v 0 i) (v i) ∙ ap (λ (k : ℕ). a + k) (sym (sum-next v 0 i ∙ ap (λ (k : ℕ). sum v 0 i + v k) (zero-add i))))
 
+-- and of the sum from `first` up to, not including, k
+pub range-next : (n : ℕ) (f : ℕ → ℕ) (first k s t x : ℕ) → first ≤ k → s ≡ sum f first (k - first) % n → x ≡ f k → t ≡ (s + x) % n
+    → t ≡ sum f first (k + 1 - first) % n
+range-next n f first k s t x l es ex et =
+    let at : first + (k - first) ≡ k = omega arith in
+    let after : k - first + 1 ≡ k + 1 - first = omega arith in
+    et ∙ ap₂ (λ (i j : ℕ). (i + j) % n) es (ex ∙ ap f (sym at)) ∙ mod-add-mod (sum f first (k - first)) n (f (first + (k - first)))
+    ∙ ap (λ (i : ℕ). i % n) (sym (sum-next f first (k - first)) ∙ ap (sum f first) after)
+
 pub sum-zero : (f : ℕ → ℕ) (first count : ℕ) → ((k : ℕ) → f k ≡ 0) → sum f first count ≡ 0
 unfolding sum
 sum-zero f first zero h = refl
 sum-zero f first (suc c) h = ap₂ _+_ (sum-zero f first c h) (h (first + c))
+
+-- every summand is x
+pub sum-same : (f : ℕ → ℕ) (x first count : ℕ) → ((k : ℕ) → first ≤ k → k < first + count → f k ≡ x) → sum f first count ≡ x * count
+unfolding sum
+sum-same f x first zero h = sym (mul-zero x)
+sum-same f x first (suc c) h =
+    let a = sum-same f x first c (λ k l u. h k l (omega arith)) in
+    let b = h (first + c) (omega arith) (omega arith) in
+    omega arith
 
 -- one summand grows by x
 pub sum-bump : (g g′ : ℕ → ℕ) (count j x : ℕ) → j < count → g′ j ≡ g j + x → ((i : ℕ) → i ≢ j → g i ≡ g′ i)

@@ -1,3 +1,4 @@
 pub mod Sum
 pub mod Whole
 pub mod Test
+pub mod Bits

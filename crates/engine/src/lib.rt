@@ -2,5 +2,6 @@
 pub mod answers;
 pub mod close;
 pub mod ledgers;
+pub mod quotes;
 pub mod sheets;
 pub mod work;

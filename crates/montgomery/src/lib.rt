@@ -1,7 +1,8 @@
 // Arithmetic modulo an odd n by Montgomery's method: the whole part of 2^e / n, modulo 2^128.
 // Algorithms 3, 4, 5 and 7 of Takahashi's paper, each in a function of its own.
 ghost use mathlib.Core.Path.{_≡_};
-ghost use Prim.Native.Nat.{ℕ, _+_, _*_, _/_, _%_, _^_, _≤_, _<_, min};
+ghost use Prim.Native.Nat.{ℕ, _+_, _*_, _-_, _/_, _%_, _^_, _≤_, _<_, min};
+ghost use Rattle.algebra.specs.Bits.{bitLength};
 ghost use Rattle.words.specs.Words.{joined};
 ghost use Rattle.montgomery.specs.Modulus.{Modulus, montgomery};
 use words::Wide;
@@ -11,6 +12,24 @@ pub struct Residue(pub u64);
 
 // A number below the modulus n that stands for the one that it is 2^64 times, modulo n.
 pub struct MontgomeryResidue(pub u64);
+
+// What finding a power gives: its residue in Montgomery form, and how many squarings were made.
+pub struct MontgomeryPower {
+    pub residue: MontgomeryResidue,
+    pub squarings: u64,
+}
+
+// The same with the plain residue.
+pub struct PlainPower {
+    pub residue: Residue,
+    pub squarings: u64,
+}
+
+// A quotient modulo 2^128, and how many squarings it took.
+pub struct Quotient {
+    pub value: Wide,
+    pub squarings: u64,
+}
 
 // One step of Newton's iteration for the inverse of n modulo 2^64: x * (2 - n * x).
 pub fn refine(n: u64, x: u64) -> u64
@@ -75,28 +94,37 @@ pub fn start(n: u64) -> MontgomeryResidue
 }
 
 // Algorithm 5 from its line 5 on: 2^e in Montgomery form. `start` takes the top bit of e, and each bit below it
-// squares, and doubles where it is set.
-pub fn power(e: u64, n: u64, mu: u64) -> MontgomeryResidue
+// squares, and doubles where it is set. The squarings are counted as they are made.
+pub fn power(e: u64, n: u64, mu: u64) -> MontgomeryPower
     requires { ⌜ (0 < e) × Modulus n mu ⌝ }
-    ensures { λ r. ⌜ r .0 ≡ montgomery n (2 ^ e) ⌝ }
+    ensures { λ r. ⌜ (r .residue .0 ≡ montgomery n (2 ^ e)) × (r .squarings ≡ bitLength e - 1) ⌝ }
 {
     let mut x = start(n);
+    let mut squarings = 0;
     let mut i: u32 = 63 - u64::leading_zeros(e);
     while i > 0 {
         i -= 1;
         let bit = (e >> i) & 1;
         x = double(square(x, n, mu), bit, n);
+        squarings += 1;
     }
-    x
+    MontgomeryPower {
+        residue: x,
+        squarings,
+    }
 }
 
 // 2^e modulo n. The Montgomery form of 2^(e - 64) is 2^64 times it, which is the plain residue of 2^e:
 // the one place where a number goes from one struct to the other.
-pub fn residue_of_power(e: u64, n: u64, mu: u64) -> Residue
+pub fn residue_of_power(e: u64, n: u64, mu: u64) -> PlainPower
     requires { ⌜ (64 < e) × Modulus n mu ⌝ }
-    ensures { λ r. ⌜ r .0 ≡ 2 ^ e % n ⌝ }
+    ensures { λ r. ⌜ (r .residue .0 ≡ 2 ^ e % n) × (r .squarings ≡ bitLength (e - 64) - 1) ⌝ }
 {
-    Residue(power(e - 64, n, mu).0)
+    let found = power(e - 64, n, mu);
+    PlainPower {
+        residue: Residue(found.residue.0),
+        squarings: found.squarings,
+    }
 }
 
 // Algorithm 7: the whole part of t / n modulo 2^128, for each multiple t of 2^128 whose residue is r.
@@ -116,12 +144,16 @@ pub fn divide(r: Residue, n: u64, mu: u64) -> Wide
 }
 
 // The whole part of 2^e / n, modulo 2^128, where 2^128 divides 2^e.
-pub fn quotient_of_power(e: u64, n: u64) -> Wide
+pub fn quotient_of_power(e: u64, n: u64) -> Quotient
     requires { ⌜ (n % 2 ≡ 1) × (n < 2 ^ 63) × (128 ≤ e) ⌝ }
-    ensures { λ q. ⌜ joined (q .hi) (q .lo) ≡ 2 ^ e / n % 2 ^ 128 ⌝ }
+    ensures { λ q. ⌜ (joined (q .value .hi) (q .value .lo) ≡ 2 ^ e / n % 2 ^ 128) × (q .squarings ≡ bitLength (e - 64) - 1) ⌝ }
 {
     let mu = std::num::wrapping_sub_u64(0, inverse(n));
-    divide(residue_of_power(e, n, mu), n, mu)
+    let found = residue_of_power(e, n, mu);
+    Quotient {
+        value: divide(found.residue, n, mu),
+        squarings: found.squarings,
+    }
 }
 
 // The whole part of 2^e / n, modulo 2^128, by long division a bit at a time: for the few small e.

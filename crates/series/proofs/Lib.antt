@@ -1,5 +1,6 @@
 pub mod Known
 pub mod ByHalves
+pub mod ByLengths
 pub mod FewRows
 pub mod Numbers
 pub mod RangeSums

@@ -8,6 +8,7 @@ use native.Mathlib.Omega.{arith}
 use lib.Dec.{lit<, lit≤}
 use Rattle.series.specs.Series.{Formula, Row, skipped, divisor, fall, termCount}
 use Rattle.series.specs.Fitting.{Position, Fitting, Workable}
+use Rattle.series.specs.Squarings.{Short}
 use Rattle.series.specs.Names.{formulaOf, numbersOf}
 use Rattle.series.specs.declared.terms.Numbers.{Numbers}
 use Rattle.series.specs.declared.Series.{Series}
@@ -67,6 +68,10 @@ workable f p r end w t h = record {
   odd = λ k. divisor-odd (formulaOf f) r k t;
   small = λ k l. divisor-fits f p r k w t (omega (arith, l));
 }
+
+-- no E - 64 has more than 63 bits
+pub short : (f : Series) (p : ℕ) (r : Row) → Position (formulaOf f) p → Fitting (formulaOf f) r → Short p r
+short f p r w t = omega (arith, w .high, last-small f, t .lead-small)
 
 -- no more terms than these
 pub fewer : (n : Numbers) (end less : ℕ) → less ≤ end → Workable n end → Workable n less

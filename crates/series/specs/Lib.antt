@@ -4,3 +4,4 @@ pub mod Check
 pub mod Names
 pub mod Fitting
 pub mod Halves
+pub mod Squarings

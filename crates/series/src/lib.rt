@@ -2,6 +2,7 @@
 pub mod halves;
 pub mod limits;
 pub mod rows;
+pub mod squarings;
 pub mod terms;
 
 // The formulas that the engine works by. `formulaOf` of the specifications says what each stands for.

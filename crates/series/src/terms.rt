@@ -1,11 +1,13 @@
-// The terms of a row: how many there are, their sizes and signs, and the signed sum of a range of them.
+// The terms of a row: how many there are, their sizes and signs, and the signed sum of a range of them with the squarings that it takes.
 use crate::Series;
+use montgomery::Quotient;
 use words::Wide;
 ghost use mathlib.Core.Path.{_≡_};
-ghost use Prim.Native.Nat.{ℕ, _+_, _-_, _≤_, _<_};
+ghost use Prim.Native.Nat.{ℕ, _+_, _-_, _%_, _≤_, _<_};
 ghost use Rattle.words.specs.Words.{joined};
 ghost use Rattle.series.specs.Series.{Formula, Row, rowCount, rowAt, isAdded, termCount, rangeSum};
 ghost use Rattle.series.specs.Series as definition;
+ghost use Rattle.series.specs.Squarings.{squarings, rangeSquarings};
 ghost use Rattle.series.specs.Names.{formulaOf, numbersOf};
 ghost use Rattle.series.specs.Fitting.{Position, Workable};
 
@@ -18,6 +20,12 @@ pub struct Numbers {
     pub j: u64,
     pub even: bool,
     pub odd: bool,
+}
+
+// What working a range of terms gives: their signed sum modulo 2^128, and how many squarings were made.
+pub struct Worked {
+    pub sum: Wide,
+    pub squarings: Wide,
 }
 
 // By how much E falls from one term to the next.
@@ -75,40 +83,55 @@ pub fn is_added(numbers: Numbers, k: u64) -> bool
     }
 }
 
-// The size of term k. Where E is below 0 the size is 0.
-pub fn size(numbers: Numbers, k: u64) -> Wide
+// The size of term k, and the squarings that it takes: none where E is below 128. Where E is below 0 the size is 0.
+pub fn size(numbers: Numbers, k: u64) -> Quotient
     requires { ⌜ Workable numbers (k + 1) ⌝ }
-    ensures { λ q. ⌜ ((F : Formula) (p : ℕ) (r : Row) → numbers ≡ numbersOf F p r → joined (q .hi) (q .lo) ≡ definition.size F p r k) ⌝ }
+    ensures { λ q. ⌜ ((F : Formula) (p : ℕ) (r : Row) → numbers ≡ numbersOf F p r → (joined (q .value .hi) (q .value .lo) ≡ definition.size F p r k) × (q .squarings ≡ squarings F p r k)) ⌝ }
 {
     let fall = numbers.step * k;
     if numbers.rise < fall {
-        return Wide { hi: 0, lo: 0 };
+        return Quotient {
+            value: Wide { hi: 0, lo: 0 },
+            squarings: 0,
+        };
     }
     let e = numbers.rise - fall;
     let n = numbers.m * k + numbers.j;
     if e < 128 {
-        montgomery::plain_quotient(e, n)
+        Quotient {
+            value: montgomery::plain_quotient(e, n),
+            squarings: 0,
+        }
     } else {
         montgomery::quotient_of_power(e, n)
     }
 }
 
-// The signed sum of the sizes of a row's terms from `first` up to, not including, `end`, modulo 2^128.
-pub fn range_sum(f: Series, p: u64, row: u64, first: u64, end: u64) -> Wide
+// The signed sum of the sizes of a row's terms from `first` up to, not including, `end`, modulo 2^128, and their squarings, which may be
+// more than a word holds.
+pub fn range_sum(f: Series, p: u64, row: u64, first: u64, end: u64) -> Worked
     requires { ⌜ Position (formulaOf f) p × (row < rowCount (formulaOf f)) × (first ≤ end) × (end ≤ termCount (formulaOf f) p) ⌝ }
-    ensures { λ s. ⌜ joined (s .hi) (s .lo) ≡ rangeSum (formulaOf f) p (rowAt (formulaOf f) row) first (end - first) ⌝ }
+    ensures { λ s. ⌜ (joined (s .sum .hi) (s .sum .lo) ≡ rangeSum (formulaOf f) p (rowAt (formulaOf f) row) first (end - first)) × (joined (s .squarings .hi) (s .squarings .lo) ≡ rangeSquarings (formulaOf f) p (rowAt (formulaOf f) row) first (end - first)) ⌝ }
 {
     let numbers = numbers_of(f, p, row);
     let mut sum = Wide { hi: 0, lo: 0 };
+    let mut squarings = Wide { hi: 0, lo: 0 };
     let mut k = first;
     while k < end {
         let q = size(numbers, k);
         if is_added(numbers, k) {
-            sum = words::add(sum, q);
+            sum = words::add(sum, q.value);
         } else {
-            sum = words::sub(sum, q);
+            sum = words::sub(sum, q.value);
         }
+        squarings = words::add(
+            squarings,
+            Wide {
+                hi: 0,
+                lo: q.squarings,
+            },
+        );
         k += 1;
     }
-    sum
+    Worked { sum, squarings }
 }

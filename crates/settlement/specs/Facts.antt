@@ -9,7 +9,7 @@ use Rattle.series.specs.Series.{Formula, rowCount}
 use Rattle.interval.specs.Interval.{isCharged}
 use Rattle.run.specs.Refusal.{Test, ascend, Applies, Smallest}
 use Rattle.run.specs.Run.{limitsOf}
-use Rattle.ticket.specs.Work.{workTests, workRefusal}
+use Rattle.ticket.specs.Work.{workTests, workRefusal, quoteTests, quoteRefusal}
 use Rattle.ledger.specs.Ledger.{viewOf, totalIn}
 use Rattle.ledger.specs.Calls.{openTests, openRefusal, ticketTests, ticketRefusal}
 use Rattle.sheet.specs.Sheet.{sheetBlocks, sheetCount}
@@ -30,10 +30,13 @@ pub record Table : Type 0 where
 abbrev pub table : List Test → ℕ → Table
 table tests number = record { tests = tests; number = number }
 
--- the table of each call: work a ticket or a half of it (three calls with one table), open, post, write, read, post and look at a sheet, close
+-- the table of each call: work a ticket or a half of it (three calls with one table), quote one (likewise), open, post, write, read, post and look
+-- at a sheet, close
 abbrev pub tables : Formula → Arguments → List Table
 tables F a =
-    table (workTests F (a .p) (a .C) (a .row) (a .block) (a .sums)) (workRefusal F (a .p) (a .C) (a .row) (a .block) (a .sums))
+    table (workTests F (a .p) (a .C) (a .row) (a .block) (a .sums) (a .squarings))
+    (workRefusal F (a .p) (a .C) (a .row) (a .block) (a .sums) (a .squarings))
+    ∷ table (quoteTests F (a .p) (a .C) (a .row) (a .block) (a .squarings)) (quoteRefusal F (a .p) (a .C) (a .row) (a .block) (a .squarings))
     ∷ table (openTests (limitsOf F) (a .p) (a .C) (a .ledger)) (openRefusal (limitsOf F) (a .p) (a .C) (a .ledger))
     ∷ table (ticketTests (limitsOf F) (viewOf (limitsOf F) (a .ledger)) (a .p) (a .C) (a .row) (a .block) (a .sums))
     (ticketRefusal (limitsOf F) (viewOf (limitsOf F) (a .ledger)) (a .p) (a .C) (a .row) (a .block) (a .sums))

@@ -3,15 +3,15 @@
 use mathlib.Core.Path.{_≡_}
 use mathlib.Core.Bool.{true}
 use mathlib.Core.List.{List}
-use Prim.Native.Nat.{ℕ, _+_, _-_, _%_, _^_, _<_}
+use Prim.Native.Nat.{ℕ, _+_, _%_, _^_, _<_}
 use lib.IntN.{pos}
 use Rattle.words.specs.Bytes.{valueOf}
-use Rattle.series.specs.Series.{Formula, rowAt, termCount, modulus}
+use Rattle.series.specs.Series.{Formula, rowAt, modulus}
 use Rattle.series.specs.Bellard.{bellard}
 use Rattle.series.specs.Check.{check}
 use Rattle.series.specs.Halves.{byHalves}
-use Rattle.run.specs.Run.{limitsOf, inRange, isTicket, bound}
-use Rattle.ticket.specs.Parts.{cut, partSum}
+use Rattle.run.specs.Run.{limitsOf, inRange, isTicket}
+use Rattle.ticket.specs.Parts.{cut, partFirst, partCount, partSum}
 use Rattle.ticket.specs.Work.{workAnswer, workBytes}
 use Rattle.ticket.specs.declared.Part.the-variants.{Whole, Lower, Upper}
 
@@ -20,19 +20,17 @@ use Rattle.ticket.specs.declared.Part.the-variants.{Whole, Lower, Upper}
 pub record HalvesMakeWhole (F : Formula) : Type 0 where
   pub sums : (p C row block : ℕ) → inRange (limitsOf F) p C ≡ true → isTicket (limitsOf F) C row block ≡ true
       → (partSum F Lower p C row block + partSum F Upper p C row block) % modulus ≡ partSum F Whole p C row block
-  pub bytes : (p C row block : ℕ) (lower upper whole : List ℕ) → workAnswer F p C row block lower ≡ pos 0
-      → workAnswer F p C row block upper ≡ pos 0 → workAnswer F p C row block whole ≡ pos 0
-      → (valueOf (workBytes F Lower p C row block lower) + valueOf (workBytes F Upper p C row block upper)) % modulus
-      ≡ valueOf (workBytes F Whole p C row block whole)
+  pub bytes : (p C row block : ℕ) (lower upper whole l u w : List ℕ) → workAnswer F p C row block lower l ≡ pos 0
+      → workAnswer F p C row block upper u ≡ pos 0 → workAnswer F p C row block whole w ≡ pos 0
+      → (valueOf (workBytes F Lower p C row block lower l) + valueOf (workBytes F Upper p C row block upper u)) % modulus
+      ≡ valueOf (workBytes F Whole p C row block whole w)
 
 -- Each half of every ticket is worked with no more than `depth` cuts one inside the other.
 pub record HalvedWithin (F : Formula) (depth : ℕ) : Type 0 where
   pub lower : (p C row block : ℕ) → inRange (limitsOf F) p C ≡ true → isTicket (limitsOf F) C row block ≡ true
-      → let first = bound (termCount F p) C block in
-      byHalves F p (rowAt F row) depth first (cut F p C block - first) ≡ partSum F Lower p C row block
+      → byHalves F p (rowAt F row) depth (partFirst F Lower p C block) (partCount F Lower p C block) ≡ partSum F Lower p C row block
   pub upper : (p C row block : ℕ) → inRange (limitsOf F) p C ≡ true → isTicket (limitsOf F) C row block ≡ true
-      → let end = bound (termCount F p) C (block + 1) in
-      byHalves F p (rowAt F row) depth (cut F p C block) (end - cut F p C block) ≡ partSum F Upper p C row block
+      → byHalves F p (rowAt F row) depth (partFirst F Upper p C block) (partCount F Upper p C block) ≡ partSum F Upper p C row block
 
 -- So many are enough, and at the last position with one block one less are not, since a half has more than 2 ^ less terms.
 pub record Deepest (F : Formula) (less : ℕ) : Type 0 where

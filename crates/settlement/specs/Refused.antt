@@ -7,7 +7,7 @@ use lib.IntN.{ℤ, pos, negℤ}
 use Rattle.series.specs.Series.{Formula}
 use Rattle.interval.specs.Interval.{isCharged}
 use Rattle.run.specs.Run.{limitsOf}
-use Rattle.ticket.specs.Work.{workRefusal, workAnswer, workBytes}
+use Rattle.ticket.specs.Work.{workRefusal, workAnswer, workBytes, workSquarings, quoteRefusal, quoteAnswer, quoteSquarings}
 use Rattle.ticket.specs.declared.Part.{Part}
 use Rattle.ticket.specs.declared.Part.the-variants.{Whole, Lower, Upper}
 use Rattle.ledger.specs.Ledger.{viewOf, totalIn}
@@ -28,6 +28,7 @@ pub record Arguments : Type 0 where
   pub sums : List ℕ
   pub digits : List ℕ
   pub total : List ℕ
+  pub squarings : List ℕ
 
 -- A slice lent to be written, as it was and as the call leaves it.
 pub record Slice : Type 0 where
@@ -46,18 +47,25 @@ pub record Call : Type 0 where
 abbrev pub call : ℕ → ℤ → List Slice → Call
 call number answer slices = record { number = number; answer = answer; slices = slices }
 
--- the ten calls: work a ticket, its lower and its upper half, open, post, write, read, post and look at a sheet, close (for check runs the engine has
--- no look)
+-- the thirteen calls: work a ticket, its lower and its upper half, quote each of these, open, post, write, read, post and look at a sheet, close
+-- (for check runs the engine has no look)
 abbrev pub workCall : Formula → Arguments → Part → Call
 workCall F a part =
-    call (workRefusal F (a .p) (a .C) (a .row) (a .block) (a .sums)) (workAnswer F (a .p) (a .C) (a .row) (a .block) (a .sums))
-    (slice (a .sums) (workBytes F part (a .p) (a .C) (a .row) (a .block) (a .sums)) ∷ [])
+    call (workRefusal F (a .p) (a .C) (a .row) (a .block) (a .sums) (a .squarings))
+    (workAnswer F (a .p) (a .C) (a .row) (a .block) (a .sums) (a .squarings))
+    (slice (a .sums) (workBytes F part (a .p) (a .C) (a .row) (a .block) (a .sums) (a .squarings))
+    ∷ slice (a .squarings) (workSquarings F part (a .p) (a .C) (a .row) (a .block) (a .sums) (a .squarings)) ∷ [])
+
+abbrev pub quoteCall : Formula → Arguments → Part → Call
+quoteCall F a part =
+    call (quoteRefusal F (a .p) (a .C) (a .row) (a .block) (a .squarings)) (quoteAnswer F (a .p) (a .C) (a .row) (a .block) (a .squarings))
+    (slice (a .squarings) (quoteSquarings F part (a .p) (a .C) (a .row) (a .block) (a .squarings)) ∷ [])
 
 abbrev pub calls : Formula → Arguments → List Call
 calls F a =
     let lim = limitsOf F in
     let seen = viewOf lim (a .ledger) in
-    workCall F a Whole ∷ workCall F a Lower ∷ workCall F a Upper
+    workCall F a Whole ∷ workCall F a Lower ∷ workCall F a Upper ∷ quoteCall F a Whole ∷ quoteCall F a Lower ∷ quoteCall F a Upper
     ∷ call (openRefusal lim (a .p) (a .C) (a .ledger)) (openAnswer lim (a .p) (a .C) (a .ledger))
     (slice (a .ledger) (openBytes lim (a .p) (a .C) (a .ledger)) ∷ [])
     ∷ call (ticketRefusal lim seen (a .p) (a .C) (a .row) (a .block) (a .sums)) (ticketAnswer lim (a .ledger) (a .p) (a .C) (a .row) (a .block) (a .sums))

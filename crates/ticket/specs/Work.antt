@@ -1,6 +1,7 @@
--- Working a ticket, whole or one half of it: what the call answers, and what it leaves in the bytes lent for the sum. The three calls
--- are refused alike, so that they have one list of tests and one answer.
-use mathlib.Core.Bool.{not, cond}
+-- Working a ticket, whole or one half of it: what the call answers, and what it leaves in the bytes lent for the sum and for the squarings. The
+-- three calls are refused alike, so that they have one list of tests and one answer. A quote gives the squarings alone, and is refused as
+-- working is (document 02, slip 7).
+use mathlib.Core.Bool.{Bool, not, cond, _&&_}
 use mathlib.Core.List.{List, [], _∷_}
 use Prim.Native.Nat.{ℕ}
 use lib.Dec.{eqb}
@@ -10,19 +11,46 @@ use Rattle.words.specs.Bytes.{bytesOf}
 use Rattle.series.specs.Series.{Formula}
 use Rattle.run.specs.Refusal.{Test, _⇐_, refusal, answer}
 use Rattle.run.specs.Run.{limitsOf, inRange, isTicket}
-use Rattle.ticket.specs.Parts.{partSum}
+use Rattle.ticket.specs.Parts.{partSum, partSquarings}
 use Rattle.ticket.specs.declared.Part.{Part}
 
-abbrev pub workTests : Formula → ℕ → ℕ → ℕ → ℕ → List ℕ → List Test
-workTests F p C row block out =
-    (1 ⇐ not (eqb (length out) 16)) ∷ (2 ⇐ not (inRange (limitsOf F) p C))
-    ∷ (4 ⇐ not (isTicket (limitsOf F) C row block)) ∷ []
+-- the tests of both, where `sized` says that each slice lent has its size
+abbrev pub partTests : Formula → ℕ → ℕ → ℕ → ℕ → Bool → List Test
+partTests F p C row block sized =
+    (1 ⇐ not sized) ∷ (2 ⇐ not (inRange (limitsOf F) p C)) ∷ (4 ⇐ not (isTicket (limitsOf F) C row block)) ∷ []
 
-unfoldable pub workRefusal : Formula → ℕ → ℕ → ℕ → ℕ → List ℕ → ℕ
-workRefusal F p C row block out = refusal (workTests F p C row block out)
+-- the bytes of a slice, where nothing is refused those of x
+abbrev pub written : ℕ → ℕ → List ℕ → List ℕ
+written number x s = cond (eqb number 0) (bytesOf 16 x) s
 
-unfoldable pub workAnswer : Formula → ℕ → ℕ → ℕ → ℕ → List ℕ → ℤ
-workAnswer F p C row block out = answer (workRefusal F p C row block out) 0
+-- ---- working
 
-unfoldable pub workBytes : Formula → Part → ℕ → ℕ → ℕ → ℕ → List ℕ → List ℕ
-workBytes F part p C row block out = cond (eqb (workRefusal F p C row block out) 0) (bytesOf 16 (partSum F part p C row block)) out
+abbrev pub workTests : Formula → ℕ → ℕ → ℕ → ℕ → List ℕ → List ℕ → List Test
+workTests F p C row block out squarings = partTests F p C row block (eqb (length out) 16 && eqb (length squarings) 16)
+
+unfoldable pub workRefusal : Formula → ℕ → ℕ → ℕ → ℕ → List ℕ → List ℕ → ℕ
+workRefusal F p C row block out squarings = refusal (workTests F p C row block out squarings)
+
+unfoldable pub workAnswer : Formula → ℕ → ℕ → ℕ → ℕ → List ℕ → List ℕ → ℤ
+workAnswer F p C row block out squarings = answer (workRefusal F p C row block out squarings) 0
+
+unfoldable pub workBytes : Formula → Part → ℕ → ℕ → ℕ → ℕ → List ℕ → List ℕ → List ℕ
+workBytes F part p C row block out squarings = written (workRefusal F p C row block out squarings) (partSum F part p C row block) out
+
+unfoldable pub workSquarings : Formula → Part → ℕ → ℕ → ℕ → ℕ → List ℕ → List ℕ → List ℕ
+workSquarings F part p C row block out squarings =
+    written (workRefusal F p C row block out squarings) (partSquarings F part p C row block) squarings
+
+-- ---- quotes
+
+abbrev pub quoteTests : Formula → ℕ → ℕ → ℕ → ℕ → List ℕ → List Test
+quoteTests F p C row block squarings = partTests F p C row block (eqb (length squarings) 16)
+
+unfoldable pub quoteRefusal : Formula → ℕ → ℕ → ℕ → ℕ → List ℕ → ℕ
+quoteRefusal F p C row block squarings = refusal (quoteTests F p C row block squarings)
+
+unfoldable pub quoteAnswer : Formula → ℕ → ℕ → ℕ → ℕ → List ℕ → ℤ
+quoteAnswer F p C row block squarings = answer (quoteRefusal F p C row block squarings) 0
+
+unfoldable pub quoteSquarings : Formula → Part → ℕ → ℕ → ℕ → ℕ → List ℕ → List ℕ
+quoteSquarings F part p C row block squarings = written (quoteRefusal F p C row block squarings) (partSquarings F part p C row block) squarings

@@ -1,18 +1,20 @@
-// Working a ticket: the sum of a block of a row's terms, or of one half of them.
+// Working a ticket: the sum of a block of a row's terms, or of one half of them, with the squarings that it takes; and a quote of these alone.
 use run::Answer;
 use run::Refusal;
 use series::Series;
+use series::terms::Worked;
 use words::Wide;
 ghost use mathlib.Core.Path.{_≡_};
 ghost use mathlib.Core.Bool.{true};
 ghost use Prim.Native.Nat.{_^_, _≤_, _<_};
 ghost use Rattle.words.specs.Words.{joined};
 ghost use Rattle.series.specs.Names.{formulaOf};
+ghost use Rattle.run.specs.Refusal.{refusal, answer};
 ghost use Rattle.run.specs.Run.{limitsOf, inRange, isTicket};
 ghost use Rattle.run.specs.Run as definition;
 ghost use Rattle.run.specs.Answers.{answerOf};
-ghost use Rattle.ticket.specs.Parts.{partSum};
-ghost use Rattle.ticket.specs.Work.{workAnswer, workBytes};
+ghost use Rattle.ticket.specs.Parts.{partFirst, partEnd, partSum, partSquarings};
+ghost use Rattle.ticket.specs.Work.{partTests, workAnswer, workBytes, workSquarings, quoteAnswer, quoteSquarings};
 
 // Which of a ticket's terms are worked: all of them, or those below or from the cut on.
 pub enum Part {
@@ -30,29 +32,54 @@ pub fn bound(count: u64, c: u64, i: u64) -> u64
     i * (count / c) + i * (count % c) / c
 }
 
-// The sum of a part of a ticket: of the whole first to last, of a half by halves.
-// Both bounds are below 2^63, so their sum fits a word.
-pub fn sum(f: Series, part: Part, p: u64, c: u64, row: u64, block: u64) -> Wide
+// Terms from `first` up to, not including, `end`.
+pub struct Range {
+    pub first: u64,
+    pub end: u64,
+}
+
+// The terms of a part of a ticket. Both bounds are below 2^63, so their sum fits a word.
+pub fn range_of(f: Series, part: Part, p: u64, c: u64, row: u64, block: u64) -> Range
     requires { ⌜ (inRange (limitsOf (formulaOf f)) p c ≡ true) × (isTicket (limitsOf (formulaOf f)) c row block ≡ true) ⌝ }
-    ensures { λ s. ⌜ joined (s .hi) (s .lo) ≡ partSum (formulaOf f) part p c row block ⌝ }
+    ensures { λ r. ⌜ (r .first ≡ partFirst (formulaOf f) part p c block) × (r .end ≡ partEnd (formulaOf f) part p c block) ⌝ }
 {
     let count = series::terms::term_count(f, p);
     let first = bound(count, c, block);
     let end = bound(count, c, block + 1);
     let cut = (first + end) / 2;
     match part {
-        Part::Whole => series::terms::range_sum(f, p, row, first, end),
-        Part::Lower => series::halves::range_sum(f, p, row, first, cut),
-        Part::Upper => series::halves::range_sum(f, p, row, cut, end),
+        Part::Whole => Range { first, end },
+        Part::Lower => Range { first, end: cut },
+        Part::Upper => Range { first: cut, end },
     }
 }
 
-// Works a part of a ticket: writes its sum into 16 bytes. All tests are done before a byte is written.
-pub fn work(f: Series, part: Part, p: u64, c: u64, row: u64, block: u64, out: &mut [u8]) -> Answer
-    ensures answers { λ r. ⌜ answerOf r ≡ workAnswer (formulaOf f) p c row block (now (out .entry)) ⌝ }
-    ensures leaves { λ _. ⌜ now (out .exit) ≡ workBytes (formulaOf f) part p c row block (now (out .entry)) ⌝ }
+// The sum of a part of a ticket, and its squarings: of the whole first to last, of a half by halves.
+pub fn sum(f: Series, part: Part, p: u64, c: u64, row: u64, block: u64) -> Worked
+    requires { ⌜ (inRange (limitsOf (formulaOf f)) p c ≡ true) × (isTicket (limitsOf (formulaOf f)) c row block ≡ true) ⌝ }
+    ensures { λ s. ⌜ (joined (s .sum .hi) (s .sum .lo) ≡ partSum (formulaOf f) part p c row block) × (joined (s .squarings .hi) (s .squarings .lo) ≡ partSquarings (formulaOf f) part p c row block) ⌝ }
 {
-    if out.len() != 16 {
+    let range = range_of(f, part, p, c, row, block);
+    match part {
+        Part::Whole => series::terms::range_sum(f, p, row, range.first, range.end),
+        _ => series::halves::range_sum(f, p, row, range.first, range.end),
+    }
+}
+
+// The squarings of a part of a ticket, without its sum.
+pub fn squarings(f: Series, part: Part, p: u64, c: u64, row: u64, block: u64) -> Wide
+    requires { ⌜ (inRange (limitsOf (formulaOf f)) p c ≡ true) × (isTicket (limitsOf (formulaOf f)) c row block ≡ true) ⌝ }
+    ensures { λ s. ⌜ joined (s .hi) (s .lo) ≡ partSquarings (formulaOf f) part p c row block ⌝ }
+{
+    let range = range_of(f, part, p, c, row, block);
+    series::squarings::range_squarings(f, p, row, range.first, range.end)
+}
+
+// What the refusal table says of working and of quoting: its tests in the order of their numbers.
+pub fn test_part(f: Series, p: u64, c: u64, row: u64, block: u64, sized: bool) -> Answer
+    ensures { λ r. ⌜ answerOf r ≡ answer (refusal (partTests (formulaOf f) p c row block sized)) 0 ⌝ }
+{
+    if !sized {
         return Answer::Refused(Refusal::WrongSize);
     }
     if !run::in_range(f, p, c) {
@@ -61,6 +88,52 @@ pub fn work(f: Series, part: Part, p: u64, c: u64, row: u64, block: u64, out: &m
     if !run::is_ticket(f, c, row, block) {
         return Answer::Refused(Refusal::NoTicket);
     }
-    words::put_wide(out, 0, sum(f, part, p, c, row, block));
     Answer::Finished(0)
+}
+
+// Works a part of a ticket: writes its sum and its squarings into 16 bytes each. All tests are done before a byte is written.
+pub fn work(
+    f: Series,
+    part: Part,
+    p: u64,
+    c: u64,
+    row: u64,
+    block: u64,
+    out: &mut [u8],
+    squarings: &mut [u8],
+) -> Answer
+    ensures answers { λ r. ⌜ answerOf r ≡ workAnswer (formulaOf f) p c row block (now (out .entry)) (now (squarings .entry)) ⌝ }
+    ensures leaves { λ _. ⌜ now (out .exit) ≡ workBytes (formulaOf f) part p c row block (now (out .entry)) (now (squarings .entry)) ⌝ }
+    ensures counts { λ _. ⌜ now (squarings .exit) ≡ workSquarings (formulaOf f) part p c row block (now (out .entry)) (now (squarings .entry)) ⌝ }
+{
+    match test_part(
+        f,
+        p,
+        c,
+        row,
+        block,
+        out.len() == 16 && squarings.len() == 16,
+    ) {
+        Answer::Finished(value) => {
+            let worked = sum(f, part, p, c, row, block);
+            words::put_wide(out, 0, worked.sum);
+            words::put_wide(squarings, 0, worked.squarings);
+            Answer::Finished(value)
+        }
+        Answer::Refused(r) => Answer::Refused(r),
+    }
+}
+
+// Quotes a part of a ticket: writes its squarings into 16 bytes.
+pub fn quote(f: Series, part: Part, p: u64, c: u64, row: u64, block: u64, out: &mut [u8]) -> Answer
+    ensures answers { λ r. ⌜ answerOf r ≡ quoteAnswer (formulaOf f) p c row block (now (out .entry)) ⌝ }
+    ensures leaves { λ _. ⌜ now (out .exit) ≡ quoteSquarings (formulaOf f) part p c row block (now (out .entry)) ⌝ }
+{
+    match test_part(f, p, c, row, block, out.len() == 16) {
+        Answer::Finished(value) => {
+            words::put_wide(out, 0, squarings(f, part, p, c, row, block));
+            Answer::Finished(value)
+        }
+        Answer::Refused(r) => Answer::Refused(r),
+    }
 }

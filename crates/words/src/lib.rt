@@ -41,6 +41,16 @@ pub fn wrapping_mul(a: u64, b: u64) -> u64
     (c % 0x1_0000_0000) * 0x1_0000_0000 + w0 % 0x1_0000_0000
 }
 
+// a * b, in two words.
+pub fn mul(a: u64, b: u64) -> Wide
+    ensures { λ r. ⌜ joined (r .hi) (r .lo) ≡ a * b ⌝ }
+{
+    Wide {
+        hi: mul_high(a, b),
+        lo: wrapping_mul(a, b),
+    }
+}
+
 // a - b, modulo 2^64: the number that b added to wraps back to a. Where a is below b, 2^64 - b is added, else b is
 // subtracted, each times the comparison as a number: no branch depends on a and b, as one does in the kit's own.
 // The compiler makes one subtraction of it.

@@ -2,7 +2,7 @@
 -- Assumes nothing.
 use mathlib.Core.Path.{_≡_, refl, sym, ap, _∙_}
 use Prim.Native.Nat.{ℕ, _+_, _*_, _-_, _/_, _%_, _^_, _≤_, _<_}
-use native.Mathlib.Nat.{div-add-mod', div-le-self, lt-of-le-of-lt, mod-eq-of-lt, mod-lt, pow-suc, zero-add}
+use native.Mathlib.Nat.{div-add-mod', div-le-self, lt-of-le-of-lt, mod-eq-of-lt, mod-lt, pow-suc}
 use native.Mathlib.Numerals.{add-one}
 use native.Mathlib.Omega.{arith}
 use borrow.Author.Needs.{needs}
@@ -11,6 +11,7 @@ use lib.Pow.{pow-lt}
 use mathlib.Core.Logic.{⊎-elim}
 use Rattle.words.specs.Words.{joined}
 use Rattle.words.specs.declared.Wide.{Wide}
+use Rattle.words.proofs.Joined.{joined-low}
 use Rattle.algebra.proofs.Cong.{Mod, to-%, wrapped, refl-mod, of-eq, trans, plus}
 use Rattle.montgomery.proofs.plain_quotient.Statement.{statement}
 use Rattle.montgomery.proofs.plain_quotient.Tie as tie
@@ -22,12 +23,7 @@ abbrev μ-loop : tie.MeasureT-loop
 μ-loop e n q₀ r₀ i₀ q r i = e - i
 
 first : (n : ℕ) → joined 0 (1 / n) ≡ 1 / n % 2 ^ 128
-unfolding joined
-first n = zero-add (1 / n) ∙ sym (mod-eq-of-lt (lt-of-le-of-lt (div-le-self 1 n) (pow-lt {i = 0} {j = 128} (omega arith))))
-
-unit : joined 0 1 ≡ 1
-unfolding joined
-unit = refl
+first n = joined-low (1 / n) ∙ sym (mod-eq-of-lt (lt-of-le-of-lt (div-le-self 1 n) (pow-lt {i = 0} {j = 128} (omega arith))))
 
 -- a turn: d is what is left of twice the remainder, and b the next bit of the quotient
 module _ (M n i q r b d : ℕ) (h : d < n) (s : d + b * n ≡ r + r) (r-is : r ≡ 2 ^ i % n) (q-is : q ≡ 2 ^ i / n % M) where
@@ -54,7 +50,7 @@ module _ (M n i q r q₁ : ℕ) (l : r < n) (r-is : r ≡ 2 ^ i % n) (q-is : q �
       let d = r + r - n in
       let s : d + 1 * n ≡ r + r = omega arith in (
         remainder M n i q r 1 d (omega arith) s r-is q-is,
-        quotient M n i q r 1 d (omega arith) s r-is q-is (q₁ + joined 0 1) q₂ f (plus (wrapped M e) (of-eq unit)),
+        quotient M n i q r 1 d (omega arith) s r-is q-is (q₁ + joined 0 1) q₂ f (plus (wrapped M e) (of-eq (joined-low 1))),
       )
 
 small : (n i r : ℕ) → 0 < n → n < 2 ^ 63 → r ≡ 2 ^ i % n → (r < n) × (r + r < 2 ^ 64)

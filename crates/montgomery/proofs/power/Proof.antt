@@ -1,13 +1,17 @@
--- `montgomery::power` meets its contract: with i bits of e left, x stands for 2 to the power of the bits above them.
+-- `montgomery::power` meets its contract: with i bits of e left, x stands for 2 to the power of the bits above them, and a squaring was made
+-- for each of these but the top one.
 -- Assumes nothing.
 use mathlib.Core.Path.{_≡_, refl, _∙_}
 use Prim.Native.Nat.{ℕ, zero, suc, _+_, _*_, _-_, _/_, _%_, _^_, _≤_, _<_}
 use native.Mathlib.Nat.{div-one, mod-lt, pow-suc}
+use native.Mathlib.Numerals.{add-one}
 use native.Mathlib.Omega.{arith}
 use borrow.Author.Needs.{needs}
 use lib.Arith.{digits-div}
 use lib.Bits.{bitAnd, and-le-r, and-mask}
 use lib.Count.{leadingZeros, leading-top}
+use Rattle.algebra.specs.Bits.{bitLength}
+use Rattle.algebra.proofs.Bits.{length-is, length-below}
 use Rattle.algebra.proofs.Cong.{Mod, of-%, is-%, wrapped}
 use Rattle.algebra.proofs.Power.{squared, doubled, next-bit}
 use Rattle.montgomery.specs.Modulus.{Modulus, montgomery}
@@ -16,10 +20,11 @@ use Rattle.montgomery.proofs.power.Statement.{statement}
 use Rattle.montgomery.proofs.power.Tie as tie
 
 abbrev Inv-loop : tie.InvT-loop
-Inv-loop e n mu x₀ i₀ x i = (i ≤ 63) × (x .0 ≡ montgomery n (2 ^ (e / 2 ^ i)))
+Inv-loop e n mu x₀ squarings₀ i₀ x squarings i =
+    (i ≤ 63) × (x .0 ≡ montgomery n (2 ^ (e / 2 ^ i))) × (squarings + i ≡ bitLength e - 1)
 
 abbrev μ-loop : tie.MeasureT-loop
-μ-loop e n mu x₀ i₀ x i = i
+μ-loop e n mu x₀ squarings₀ i₀ x squarings i = i
 
 -- the zeros above the top bit of e leave room for it
 zeros : (e : ℕ) → 0 < e → e < 2 ^ 64 → leadingZeros 64 e ≤ 63
@@ -37,6 +42,13 @@ top e h l =
         let rest : 1 * 2 ^ j + (e - 2 ^ j) ≡ e = omega arith in
         let small : e - 2 ^ j < 2 ^ j = omega (arith, pow-suc 2 j) in
         rw rest at (digits-div 1 small)
+
+-- there are as many bits below the top one as the length says
+places : (e : ℕ) → 0 < e → e < 2 ^ 64 → 0 + (63 - leadingZeros 64 e) ≡ bitLength e - 1
+places e h l =
+    let t = leading-top 64 e h l in
+    let is : bitLength e ≡ t .0 + 1 = length-is e (t .0) (t .2) (rw (add-one (t .0)) (t .3)) in
+    omega (arith, t .1, is)
 
 -- a turn squares, and doubles where the next bit of e is set
 module _ (e n μ i x s : ℕ) (m : Modulus n μ) (l : 0 < i) (p : x ≡ montgomery n (2 ^ (e / 2 ^ i))) (q : s * 2 ^ 64 % n ≡ x * x % n) where
@@ -76,7 +88,9 @@ sub-i : tie.Need-sub-i Inv-loop μ-loop
 sub-i c = zeros _ (c .before .pre .0) (c .before .fits .e .fits)
 
 loop-holds : tie.Need-loop-holds Inv-loop μ-loop
-loop-holds c = (omega arith, rw (top _ (c .before .pre .0) (c .before .fits .e .fits)) (c .start .ensures))
+loop-holds c =
+    let s = c .before in
+    (omega arith, rw (top _ (s .pre .0) (s .fits .e .fits)) (c .start .ensures), places _ (s .pre .0) (s .fits .e .fits))
 
 sub-i-2 : tie.Need-sub-i-2 Inv-loop μ-loop
 sub-i-2 c = omega arith
@@ -95,6 +109,12 @@ double-requires c κs =
     let s = c .before .before .before .before in
     (c .square .ensures .0, s .pre .1 .small, search (needs, and-le-r))
 
+add-squarings : tie.Need-add-squarings Inv-loop μ-loop
+add-squarings c =
+    let t = c .before .before .before in
+    let s = t .before .before in
+    record { fits = omega (arith, t .loop .inv .2, length-below (s .args .e) 64 (s .fits .e .fits)) }
+
 loop-less : tie.Need-loop-less Inv-loop μ-loop
 loop-less c = omega arith
 
@@ -103,12 +123,12 @@ loop-again c =
     let t = c .before .before .before in
     let s = t .before .before in
     let x = c .before .square in
-    (omega arith, turn (s .args .e) (s .args .n) (s .args .mu) (t .loop .i) (t .loop .x .0) (x .result .0) (s .pre .1) (omega arith) (t .loop .inv .1) (x .ensures .1) _ (x .ensures .0) (c .double .ensures))
+    (omega arith, turn (s .args .e) (s .args .n) (s .args .mu) (t .loop .i) (t .loop .x .0) (x .result .0) (s .pre .1) (omega arith) (t .loop .inv .1) (x .ensures .1) _ (x .ensures .0) (c .double .ensures), omega (arith, t .loop .inv .2))
 
 returns : tie.Need-returns Inv-loop μ-loop
 returns c =
     let none : c .before .loop .i ≡ 0 = omega arith in
-    rw (none, div-one) at (c .before .loop .inv .1)
+    (rw (none, div-one) at (c .before .loop .inv .1), omega (arith, c .before .loop .inv .2))
 
 pub power-spec : {M : Type 1} → statement M
 power-spec =
@@ -124,6 +144,7 @@ power-spec =
     shr-bit
     square-requires
     double-requires
+    add-squarings
     loop-less
     loop-again
     returns)

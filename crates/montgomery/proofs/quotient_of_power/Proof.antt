@@ -43,12 +43,13 @@ residue-of-power-requires c κs =
 divide-requires : tie.Need-divide-requires
 divide-requires c κs =
     let i = c .before .before in
-    (below _ _ _ (i .before .pre .0) (c .residue-of-power .ensures), modulus _ _ _ (i .before .pre .0) (i .before .pre .1) (i .inverse .ensures) (c .before .wrapping-sub-u64 .ensures))
+    (below _ _ _ (i .before .pre .0) (c .residue-of-power .ensures .0), modulus _ _ _ (i .before .pre .0) (i .before .pre .1) (i .inverse .ensures) (c .before .wrapping-sub-u64 .ensures))
 
 returns : tie.Need-returns
 returns c =
     let s = c .before .before .before .before in
-    c .divide .ensures (2 ^ s .args .e) (full _ (s .pre .2)) (sym (c .before .residue-of-power .ensures))
+    let found = c .before .residue-of-power .ensures in
+    (c .divide .ensures (2 ^ s .args .e) (full _ (s .pre .2)) (sym (found .0)), found .1)
 
 pub quotient-of-power-spec : {M : Type 1} → statement M
 quotient-of-power-spec =

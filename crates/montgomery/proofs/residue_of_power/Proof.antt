@@ -21,7 +21,7 @@ power-requires : tie.Need-power-requires
 power-requires c κs = search needs
 
 returns : tie.Need-returns
-returns c = law _ _ _ (c .before .pre .0) (c .power .ensures)
+returns c = (law _ _ _ (c .before .pre .0) (c .power .ensures .0), c .power .ensures .1)
 
 pub residue-of-power-spec : {M : Type 1} → statement M
 residue-of-power-spec = tie.close (tie.spec sub-power power-requires returns)

@@ -1,6 +1,6 @@
 -- `series::halves::by_halves` meets its contract, and ends: the measure is the number of terms, and both halves of two or more have fewer.
 -- Assumes nothing.
-use mathlib.Core.Path.{ap, ap₂, _∙_}
+use mathlib.Core.Path.{_≡_, ap, ap₂, _∙_}
 use mathlib.Core.Logic.{⊎-elim}
 use Prim.Native.Nat.{ℕ, _+_, _%_, _<_}
 use native.Mathlib.Omega.{arith}
@@ -10,8 +10,10 @@ use borrow.Fn.PlainCycle.{Measures, is, falls, and}
 use Rattle.words.proofs.Joined.{value}
 use Rattle.words.proofs.add.Reads as add-reads
 use Rattle.series.specs.Series.{modulus}
+use Rattle.series.specs.declared.terms.Worked.{Worked}
 use Rattle.series.proofs.Numbers.{fewer}
 use Rattle.series.proofs.ByHalves.{halved}
+use Rattle.series.proofs.ByLengths.{halved-count}
 use Rattle.series.proofs.halves.one_or_none.Reads as one-or-none-reads
 use Rattle.series.proofs.halves.by_halves.Reads as by-halves
 use Rattle.series.proofs.halves.by_halves.Kinds as by-halves-kinds
@@ -31,6 +33,11 @@ asked t = and 0 by-halves-kinds.ps (falls 0 by-halves-kinds.ps _<_ measure t) by
 
 abbrev calls : ℕ → lts.Claims
 calls t = (one-or-none-reads.Asked, one-or-none-reads.Learnt, asked t, by-halves.Post, add-reads.Asked, add-reads.Learnt)
+
+-- what is known of a call's result is known of the variable that it was laid in
+same : (x y : Worked) (sum squarings : ℕ) → x ≡ y → (value (y .sum) ≡ sum) × (value (y .squarings) ≡ squarings)
+    → (value (x .sum) ≡ sum) × (value (x .squarings) ≡ squarings)
+same x y sum squarings e h = (ap (λ (z : Worked). value (z .sum)) e ∙ h .0, ap (λ (z : Worked). value (z .squarings)) e ∙ h .1)
 
 module _ (t : ℕ) where
   sub-rest : lts.Need-sub-rest (calls t) (given t) by-halves.Post
@@ -54,13 +61,16 @@ module _ (t : ℕ) where
   add-requires : lts.Need-add-requires (calls t) (given t) by-halves.Post
   add-requires c κs = search needs
 
+  add-requires-2 : lts.Need-add-requires-2 (calls t) (given t) by-halves.Post
+  add-requires-2 c κs = search needs
+
   returns : lts.Need-returns (calls t) (given t) by-halves.Post
   returns c F p r n =
-      c .add .ensures
-      ∙ ap₂ (λ (x y : ℕ). (x + y) % modulus)
-      (⊎-elim (λ w. ap value (w .2) ∙ w .1 .ensures F p r n) (λ w. ap value (w .2) ∙ w .1 .ensures F p r n) (c .before .before .if1 .came))
-      (⊎-elim (λ w. ap value (w .2) ∙ w .1 .ensures F p r n) (λ w. ap value (w .2) ∙ w .1 .ensures F p r n) (c .before .if2 .came))
-      ∙ halved F p r _ _
+      let lower = ⊎-elim (λ w. same _ _ _ _ (w .2) (w .1 .ensures F p r n)) (λ w. same _ _ _ _ (w .2) (w .1 .ensures F p r n)) (c .before .before .before .if1 .came) in
+      let upper = ⊎-elim (λ w. same _ _ _ _ (w .2) (w .1 .ensures F p r n)) (λ w. same _ _ _ _ (w .2) (w .1 .ensures F p r n)) (c .before .before .if2 .came) in (
+        c .before .add .ensures ∙ ap₂ (λ (x y : ℕ). (x + y) % modulus) (lower .0) (upper .0) ∙ halved F p r _ _,
+        c .add2 .ensures ∙ ap₂ (λ (x y : ℕ). (x + y) % modulus) (lower .1) (upper .1) ∙ halved-count F p r _ _,
+      )
 
 pub +by-halves-spec : {M : Type 1} → statement M
 +by-halves-spec =
@@ -73,4 +83,5 @@ pub +by-halves-spec : {M : Type 1} → statement M
     (one-or-none-requires-2 t)
     (by-halves-requires-2 t)
     (add-requires t)
+    (add-requires-2 t)
     (returns t)

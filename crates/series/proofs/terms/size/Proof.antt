@@ -1,11 +1,14 @@
--- `series::terms::size` meets its contract: one law for E below 0 and one for the others.
+-- `series::terms::size` meets its contract: one law of the size for E below 0 and one for the others, one of the squarings for E below 128 and one
+-- for the others.
 -- Assumes nothing.
 use mathlib.Core.Path.{_≡_, refl, subst}
 use Prim.Native.Nat.{ℕ, _+_, _*_, _-_, _/_, _%_, _^_, _≤_, _<_}
 use native.Mathlib.Omega.{arith}
 use borrow.Author.Tests.{le-leb, lt-leb}
+use Rattle.algebra.specs.Bits.{bitLength}
 use Rattle.words.specs.Words.{joined}
 use Rattle.series.specs.Series.{Formula, Row, rise, fall, modulus, size}
+use Rattle.series.specs.Squarings.{squarings}
 use Rattle.series.specs.Names.{numbersOf}
 use Rattle.series.specs.declared.terms.Numbers.{Numbers}
 use Rattle.series.proofs.terms.size.Statement.{statement}
@@ -24,6 +27,18 @@ module _ (n : Numbers) (k : ℕ) (F : Formula) (p : ℕ) (r : Row) (e : n ≡ nu
       let l = subst (λ (x : Numbers). x .step * k ≤ x .rise) e h in
       rw (le-leb (fall F k) (rise p r) l) (subst (λ (x : Numbers). q ≡ 2 ^ (x .rise - x .step * k) / (x .m * k + x .j) % modulus) e d)
 
+  none : n .rise < n .step * k + 128 → 0 ≡ squarings F p r k
+  unfolding squarings
+  none h =
+      let l = subst (λ (x : Numbers). x .rise < x .step * k + 128) e h in
+      rw (lt-leb (fall F k + 128) (rise p r) l) refl
+
+  counted : (q : ℕ) → n .step * k + 128 ≤ n .rise → q ≡ bitLength (n .rise - n .step * k - 64) - 1 → q ≡ squarings F p r k
+  unfolding squarings
+  counted q h d =
+      let l = subst (λ (x : Numbers). x .step * k + 128 ≤ x .rise) e h in
+      rw (le-leb (fall F k + 128) (rise p r) l) (subst (λ (x : Numbers). q ≡ bitLength (x .rise - x .step * k - 64) - 1) e d)
+
 positive : (n : ℕ) → n % 2 ≡ 1 → 0 < n
 positive n o = omega arith
 
@@ -36,7 +51,7 @@ mul-fall c =
     record { fits = omega (arith, s .pre .fall-fits (s .args .k) (before-next (s .args .k))) }
 
 returns : tie.Need-returns
-returns c F p r e = negative _ _ F p r e (c .if1 .taken)
+returns c F p r e = (negative _ _ F p r e (c .if1 .taken), none _ _ F p r e (omega (arith, c .if1 .taken)))
 
 mul-n : tie.Need-mul-n
 mul-n c =
@@ -61,12 +76,13 @@ quotient-of-power-requires c κs =
 returns-2 : tie.Need-returns-2
 returns-2 c F p r e =
     let other = c .before .before .before .before .before in
-    some _ _ F p r e _ (other .if1 .left) (c .plain-quotient .ensures)
+    (some _ _ F p r e _ (other .if1 .left) (c .plain-quotient .ensures), none _ _ F p r e (omega arith))
 
 returns-3 : tie.Need-returns-3
 returns-3 c F p r e =
     let other = c .before .before .before .before .before in
-    some _ _ F p r e _ (other .if1 .left) (c .quotient-of-power .ensures)
+    let found = c .quotient-of-power .ensures in
+    (some _ _ F p r e _ (other .if1 .left) (found .0), counted _ _ F p r e _ (omega arith) (found .1))
 
 pub size-spec : {M : Type 1} → statement M
 size-spec =
