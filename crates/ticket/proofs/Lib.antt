@@ -1,2 +1,3 @@
 pub mod Bounding
+pub mod Parts
 pub mod Working

@@ -19,20 +19,29 @@ abbrev pub partTests : Formula → ℕ → ℕ → ℕ → ℕ → Bool → List
 partTests F p C row block sized =
     (1 ⇐ not sized) ∷ (2 ⇐ not (inRange (limitsOf F) p C)) ∷ (4 ⇐ not (isTicket (limitsOf F) C row block)) ∷ []
 
+unfoldable pub partRefusal : Formula → ℕ → ℕ → ℕ → ℕ → Bool → ℕ
+partRefusal F p C row block sized = refusal (partTests F p C row block sized)
+
+unfoldable pub partAnswer : Formula → ℕ → ℕ → ℕ → ℕ → Bool → ℤ
+partAnswer F p C row block sized = answer (partRefusal F p C row block sized) 0
+
 -- the bytes of a slice, where nothing is refused those of x
 abbrev pub written : ℕ → ℕ → List ℕ → List ℕ
 written number x s = cond (eqb number 0) (bytesOf 16 x) s
 
 -- ---- working
 
+unfoldable pub bothSized : List ℕ → List ℕ → Bool
+bothSized out squarings = eqb (length out) 16 && eqb (length squarings) 16
+
 abbrev pub workTests : Formula → ℕ → ℕ → ℕ → ℕ → List ℕ → List ℕ → List Test
-workTests F p C row block out squarings = partTests F p C row block (eqb (length out) 16 && eqb (length squarings) 16)
+workTests F p C row block out squarings = partTests F p C row block (bothSized out squarings)
 
 unfoldable pub workRefusal : Formula → ℕ → ℕ → ℕ → ℕ → List ℕ → List ℕ → ℕ
-workRefusal F p C row block out squarings = refusal (workTests F p C row block out squarings)
+workRefusal F p C row block out squarings = partRefusal F p C row block (bothSized out squarings)
 
 unfoldable pub workAnswer : Formula → ℕ → ℕ → ℕ → ℕ → List ℕ → List ℕ → ℤ
-workAnswer F p C row block out squarings = answer (workRefusal F p C row block out squarings) 0
+workAnswer F p C row block out squarings = partAnswer F p C row block (bothSized out squarings)
 
 unfoldable pub workBytes : Formula → Part → ℕ → ℕ → ℕ → ℕ → List ℕ → List ℕ → List ℕ
 workBytes F part p C row block out squarings = written (workRefusal F p C row block out squarings) (partSum F part p C row block) out
@@ -47,10 +56,10 @@ abbrev pub quoteTests : Formula → ℕ → ℕ → ℕ → ℕ → List ℕ →
 quoteTests F p C row block squarings = partTests F p C row block (eqb (length squarings) 16)
 
 unfoldable pub quoteRefusal : Formula → ℕ → ℕ → ℕ → ℕ → List ℕ → ℕ
-quoteRefusal F p C row block squarings = refusal (quoteTests F p C row block squarings)
+quoteRefusal F p C row block squarings = partRefusal F p C row block (eqb (length squarings) 16)
 
 unfoldable pub quoteAnswer : Formula → ℕ → ℕ → ℕ → ℕ → List ℕ → ℤ
-quoteAnswer F p C row block squarings = answer (quoteRefusal F p C row block squarings) 0
+quoteAnswer F p C row block squarings = partAnswer F p C row block (eqb (length squarings) 16)
 
 unfoldable pub quoteSquarings : Formula → Part → ℕ → ℕ → ℕ → ℕ → List ℕ → List ℕ
 quoteSquarings F part p C row block squarings = written (quoteRefusal F p C row block squarings) (partSquarings F part p C row block) squarings

@@ -9,12 +9,11 @@ ghost use mathlib.Core.Bool.{true};
 ghost use Prim.Native.Nat.{_^_, _≤_, _<_};
 ghost use Rattle.words.specs.Words.{joined};
 ghost use Rattle.series.specs.Names.{formulaOf};
-ghost use Rattle.run.specs.Refusal.{refusal, answer};
 ghost use Rattle.run.specs.Run.{limitsOf, inRange, isTicket};
 ghost use Rattle.run.specs.Run as definition;
 ghost use Rattle.run.specs.Answers.{answerOf};
 ghost use Rattle.ticket.specs.Parts.{partFirst, partEnd, partSum, partSquarings};
-ghost use Rattle.ticket.specs.Work.{partTests, workAnswer, workBytes, workSquarings, quoteAnswer, quoteSquarings};
+ghost use Rattle.ticket.specs.Work.{bothSized, partAnswer, workAnswer, workBytes, workSquarings, quoteAnswer, quoteSquarings};
 
 // Which of a ticket's terms are worked: all of them, or those below or from the cut on.
 pub enum Part {
@@ -39,8 +38,8 @@ pub struct Range {
 }
 
 // The terms of a part of a ticket. Both bounds are below 2^63, so their sum fits a word.
-pub fn range_of(f: Series, part: Part, p: u64, c: u64, row: u64, block: u64) -> Range
-    requires { ⌜ (inRange (limitsOf (formulaOf f)) p c ≡ true) × (isTicket (limitsOf (formulaOf f)) c row block ≡ true) ⌝ }
+pub fn range_of(f: Series, part: Part, p: u64, c: u64, block: u64) -> Range
+    requires { ⌜ (inRange (limitsOf (formulaOf f)) p c ≡ true) × (block < c) ⌝ }
     ensures { λ r. ⌜ (r .first ≡ partFirst (formulaOf f) part p c block) × (r .end ≡ partEnd (formulaOf f) part p c block) ⌝ }
 {
     let count = series::terms::term_count(f, p);
@@ -59,7 +58,7 @@ pub fn sum(f: Series, part: Part, p: u64, c: u64, row: u64, block: u64) -> Worke
     requires { ⌜ (inRange (limitsOf (formulaOf f)) p c ≡ true) × (isTicket (limitsOf (formulaOf f)) c row block ≡ true) ⌝ }
     ensures { λ s. ⌜ (joined (s .sum .hi) (s .sum .lo) ≡ partSum (formulaOf f) part p c row block) × (joined (s .squarings .hi) (s .squarings .lo) ≡ partSquarings (formulaOf f) part p c row block) ⌝ }
 {
-    let range = range_of(f, part, p, c, row, block);
+    let range = range_of(f, part, p, c, block);
     match part {
         Part::Whole => series::terms::range_sum(f, p, row, range.first, range.end),
         _ => series::halves::range_sum(f, p, row, range.first, range.end),
@@ -71,13 +70,13 @@ pub fn squarings(f: Series, part: Part, p: u64, c: u64, row: u64, block: u64) ->
     requires { ⌜ (inRange (limitsOf (formulaOf f)) p c ≡ true) × (isTicket (limitsOf (formulaOf f)) c row block ≡ true) ⌝ }
     ensures { λ s. ⌜ joined (s .hi) (s .lo) ≡ partSquarings (formulaOf f) part p c row block ⌝ }
 {
-    let range = range_of(f, part, p, c, row, block);
+    let range = range_of(f, part, p, c, block);
     series::squarings::range_squarings(f, p, row, range.first, range.end)
 }
 
 // What the refusal table says of working and of quoting: its tests in the order of their numbers.
 pub fn test_part(f: Series, p: u64, c: u64, row: u64, block: u64, sized: bool) -> Answer
-    ensures { λ r. ⌜ answerOf r ≡ answer (refusal (partTests (formulaOf f) p c row block sized)) 0 ⌝ }
+    ensures { λ r. ⌜ answerOf r ≡ partAnswer (formulaOf f) p c row block sized ⌝ }
 {
     if !sized {
         return Answer::Refused(Refusal::WrongSize);
@@ -89,6 +88,16 @@ pub fn test_part(f: Series, p: u64, c: u64, row: u64, block: u64, sized: bool) -
         return Answer::Refused(Refusal::NoTicket);
     }
     Answer::Finished(0)
+}
+
+// Whether the slices for a sum and for its squarings have 16 bytes each.
+pub fn sized(out: &[u8], squarings: &[u8]) -> bool
+    ensures { λ r. ⌜ r ≡ bothSized (now (out .entry)) (now (squarings .entry)) ⌝ }
+{
+    if out.len() != 16 {
+        return false;
+    }
+    squarings.len() == 16
 }
 
 // Works a part of a ticket: writes its sum and its squarings into 16 bytes each. All tests are done before a byte is written.
@@ -106,14 +115,7 @@ pub fn work(
     ensures leaves { λ _. ⌜ now (out .exit) ≡ workBytes (formulaOf f) part p c row block (now (out .entry)) (now (squarings .entry)) ⌝ }
     ensures counts { λ _. ⌜ now (squarings .exit) ≡ workSquarings (formulaOf f) part p c row block (now (out .entry)) (now (squarings .entry)) ⌝ }
 {
-    match test_part(
-        f,
-        p,
-        c,
-        row,
-        block,
-        out.len() == 16 && squarings.len() == 16,
-    ) {
+    match test_part(f, p, c, row, block, sized(out, squarings)) {
         Answer::Finished(value) => {
             let worked = sum(f, part, p, c, row, block);
             words::put_wide(out, 0, worked.sum);

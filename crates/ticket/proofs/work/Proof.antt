@@ -1,60 +1,85 @@
--- `ticket::work` meets its contract: one law for each way out.
+-- `ticket::work` meets its contract: both slices are written after all tests.
 -- Assumes nothing.
-use mathlib.Core.Path.{sym, _∙_}
 use borrow.Author.Needs.{needs}
-use borrow.Author.Tests.{not-true, not-false}
-use Rattle.ticket.proofs.Working.{wrong-size, out-of-range, no-ticket, worked}
+use native.Mathlib.Omega.{arith}
+use Rattle.ticket.proofs.Working.{to-work, worked, not-worked}
 use Rattle.ticket.proofs.work.Statement.{statement}
 use Rattle.ticket.proofs.work.Tie as tie
 
-returns : tie.Need-returns
-returns c = wrong-size _ _ _ _ _ _ _ (c .if1 .taken)
+sized-requires : tie.Need-sized-requires
+sized-requires c κs = search needs
 
-in-range-requires : tie.Need-in-range-requires
-in-range-requires c κs = search needs
+test-part-requires : tie.Need-test-part-requires
+test-part-requires c κs = search needs
 
-returns-2 : tie.Need-returns-2
-returns-2 c = out-of-range _ _ _ _ _ _ _ (c .before .before .if1 .left) (sym (c .before .in-range .ensures) ∙ not-true _ (c .if2 .taken))
-
-is-ticket-requires : tie.Need-is-ticket-requires
-is-ticket-requires c κs = search needs
-
-returns-3 : tie.Need-returns-3
-returns-3 c =
-    let range = c .before .before in
-    no-ticket _ _ _ _ _ _ _ (range .before .before .if1 .left) (sym (range .before .in-range .ensures) ∙ not-false _ (range .if2 .left))
-    (sym (c .before .is-ticket .ensures) ∙ not-true _ (c .if3 .taken))
+enum-known-value : tie.Need-enum-known-value
+enum-known-value c = search needs
 
 sum-requires : tie.Need-sum-requires
 sum-requires c κs =
-    let ticket = c .before in
-    let range = ticket .before .before in
-    (sym (range .before .in-range .ensures) ∙ not-false _ (range .if2 .left), sym (ticket .before .is-ticket .ensures) ∙ not-false _ (ticket .if3 .left))
+    let told = c .before in
+    let tested = told .before .before in
+    let h = to-work _ _ _ _ _ _ _ _ (tested .before .sized .ensures) _ (tested .test-part .ensures) _ (told .value .given .1) in
+    (h .2, h .3)
 
 put-wide-requires : tie.Need-put-wide-requires
-put-wide-requires c κs = search needs
+put-wide-requires c κs =
+    let told = c .before .before .before in
+    let tested = told .before .before in
+    let h = to-work _ _ _ _ _ _ _ _ (tested .before .sized .ensures) _ (tested .test-part .ensures) _ (told .value .given .1) in
+    omega (arith, h .0)
+
+put-wide-requires-2 : tie.Need-put-wide-requires-2
+put-wide-requires-2 c κs =
+    let told = c .before .before .before .before .before .before .before in
+    let tested = told .before .before in
+    let h = to-work _ _ _ _ _ _ _ _ (tested .before .sized .ensures) _ (tested .test-part .ensures) _ (told .value .given .1) in
+    omega (arith, h .1)
+
+enum-known-r : tie.Need-enum-known-r
+enum-known-r c = search needs
 
 same-length : tie.Need-same-length
 same-length c = search needs
 
-returns-4 : tie.Need-returns-4
-returns-4 c =
-    let put = c .before .before in
-    let ticket = put .before .before .before in
-    let range = ticket .before .before in
-    worked _ _ _ _ _ _ _ (range .before .before .if1 .left) (sym (range .before .in-range .ensures) ∙ not-false _ (range .if2 .left))
-    (sym (ticket .before .is-ticket .ensures) ∙ not-false _ (ticket .if3 .left)) _ _ (put .before .sum .ensures) (put .put-wide .ensures)
+same-length-2 : tie.Need-same-length-2
+same-length-2 c = search needs
+
+returns : tie.Need-returns
+returns c =
+    let second = c .before .before in
+    let first = second .before .before .before .before in
+    let found = first .before .before in
+    let told = found .before .before in
+    let tested = told .before .before in
+    worked _ _ _ _ _ _ _ _ (tested .before .sized .ensures) _ (tested .test-part .ensures) _ _ (told .value .given .1) _ _ _ _
+    (found .sum .ensures) (first .put-wide .ensures) (second .put-wide2 .ensures)
+
+same-length-3 : tie.Need-same-length-3
+same-length-3 c = search needs
+
+same-length-4 : tie.Need-same-length-4
+same-length-4 c = search needs
+
+returns-2 : tie.Need-returns-2
+returns-2 c =
+    let tested = c .before .before .before in
+    not-worked _ _ _ _ _ _ _ _ (tested .before .sized .ensures) _ (tested .test-part .ensures) _ _ (c .before .r .given .1)
 
 pub work-spec : {M : Type 1} → statement M
 work-spec =
     tie.close
     (tie.spec
-    returns
-    in-range-requires
-    returns-2
-    is-ticket-requires
-    returns-3
+    sized-requires
+    test-part-requires
+    enum-known-value
     sum-requires
     put-wide-requires
+    put-wide-requires-2
+    enum-known-r
     same-length
-    returns-4)
+    same-length-2
+    returns
+    same-length-3
+    same-length-4
+    returns-2)
