@@ -5,7 +5,7 @@ use mathlib.Core.Path.{_≡_, refl, sym, ap, ap₂, _∙_}
 use mathlib.Core.Bool.{Bool, true, false, cond, _&&_}
 use mathlib.Core.List.{List, [], _∷_, foldl}
 use Prim.Native.Nat.{ℕ, zero, suc, _+_, _*_, _≤_}
-use native.Mathlib.Nat.{zero-add, add-zero}
+use native.Mathlib.Nat.{zero-add, add-zero, mul-comm}
 use native.Mathlib.Omega.{arith}
 use borrow.Author.Tests.{ne-eqb}
 use lib.Dec.{eqb}
@@ -13,7 +13,7 @@ use lib.ListN.{length}
 use mir.Val.{boolByte}
 use Rattle.algebra.specs.Sum.{sum}
 use Rattle.algebra.specs.Test.{allBelow}
-use Rattle.algebra.proofs.Sums.{sum-ext, sum-add, sum-none, sum-next, sum-bump}
+use Rattle.algebra.proofs.Sums.{sum-ext, sum-add, sum-same, sum-none, sum-next, sum-bump}
 use Rattle.algebra.proofs.Below.{all-ext}
 use Rattle.run.specs.Run.{Limits, isTicket}
 use Rattle.run.proofs.Range.{ticket-row, ticket-block, is-ticket}
@@ -58,11 +58,6 @@ module _ (lim : Limits) (s : List ℕ) where
 
 -- ---- marked and unmarked
 
-sum-same : (d first count : ℕ) → sum (λ k. d) first count ≡ count * d
-unfolding sum
-sum-same d first zero = omega arith
-sum-same d first (suc c) = let a = sum-same d first c in omega (arith, a)
-
 one-of-two : (b : Bool) → lacking b + cond b 1 0 ≡ 1
 one-of-two true = refl
 one-of-two false = refl
@@ -88,9 +83,9 @@ module _ (lim : Limits) where
       let m = v .marked in
       let row-of : (row : ℕ) → sum (λ block. lacking (m row block)) 0 (v .C) + sum (λ block. cond (m row block) 1 0) 0 (v .C) ≡ v .C =
       λ row. sym (sum-add (λ block. lacking (m row block)) (λ block. cond (m row block) 1 0) 0 (v .C))
-      ∙ sum-ext _ (λ block. 1) 0 (v .C) (λ block l u. one-of-two (m row block)) ∙ sum-same 1 0 (v .C) ∙ omega arith in
+      ∙ sum-same _ 1 0 (v .C) (λ block l u. one-of-two (m row block)) ∙ omega arith in
       sym (sum-add (λ row. sum (λ block. lacking (m row block)) 0 (v .C)) (λ row. sum (λ block. cond (m row block) 1 0) 0 (v .C)) 0 (lim .rows))
-      ∙ sum-ext _ (λ row. v .C) 0 (lim .rows) (λ row l u. row-of row) ∙ sum-same (v .C) 0 (lim .rows)
+      ∙ sum-same _ (v .C) 0 (lim .rows) (λ row l u. row-of row) ∙ mul-comm (v .C) (lim .rows)
 
   -- ---- tickets go in
 

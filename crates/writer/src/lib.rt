@@ -104,14 +104,14 @@ pub fn put_contents(list: &[u8], e: usize, out: &mut [u8])
     }
 }
 
-// Works the tickets, and writes their sums.
+// Works the tickets, and writes their sums. A sheet does not carry the squarings.
 pub fn put_bodies(f: Series, p: u64, c: u64, list: &[u8], e: usize, out: &mut [u8])
     requires { ⌜ (length (now list) ≡ 2 * e) × (16 + 20 * e ≤ length (now out)) × (inRange (limitsOf (formulaOf f)) p c ≡ true) × (allTickets (limitsOf (formulaOf f)) c (listed (formulaOf f) p c (now list)) ≡ true) ⌝ }
     ensures { λ _. ⌜ now (out .exit) ≡ take (16 + 4 * e) (now (out .entry)) ++ bodiesOf (listed (formulaOf f) p c (now (list .entry))) ++ drop (16 + 20 * e) (now (out .entry)) ⌝ }
 {
     let mut i = 0;
     while i < e {
-        let sum = ticket::sum(
+        let worked = ticket::sum(
             f,
             Part::Whole,
             p,
@@ -119,7 +119,7 @@ pub fn put_bodies(f: Series, p: u64, c: u64, list: &[u8], e: usize, out: &mut [u
             list[2 * i + 1] as u64,
             list[2 * i] as u64,
         );
-        words::put_wide(out, 16 + 4 * e + 16 * i, sum);
+        words::put_wide(out, 16 + 4 * e + 16 * i, worked.sum);
         i += 1;
     }
 }

@@ -13,7 +13,7 @@ use Rattle.words.specs.Bytes.{bytesOf}
 use Rattle.series.specs.Series.{Formula}
 use Rattle.series.specs.Names.{formulaOf}
 use Rattle.run.specs.Run.{Limits, isTicket, ticketSum}
-use Rattle.ticket.specs.Parts.{partSum}
+use Rattle.ticket.proofs.Parts.{whole-sum}
 use Rattle.ledger.specs.Plain.{Entry}
 use Rattle.sheet.specs.Sheet.{allTickets, bodiesOf, listed}
 use Rattle.writer.proofs.Pairs.{pairRow, pairBlock, count, pair-at, tickets-listed}
@@ -105,7 +105,6 @@ loop-less : tie.Need-loop-less Inv-loop μ-loop
 loop-less c = omega arith
 
 loop-again : tie.Need-loop-again Inv-loop μ-loop
-unfolding partSum
 loop-again c =
     let put = c .before .before in
     let work = put .before .before in
@@ -116,7 +115,7 @@ loop-again c =
       omega arith,
       search needs,
       next (formulaOf (args .f)) (args .p) (args .c) (now (args .list)) (now (args .out)) (args .e) (given .pre .0) _ _ _ _ (given .pre .1)
-          (test .loop-test .taken) (work .sum .ensures) (loop .loop .inv .2) (put .put-wide .ensures),
+          (test .loop-test .taken) (work .sum .ensures .0 ∙ whole-sum _ _ _ _ _) (loop .loop .inv .2) (put .put-wide .ensures),
     )
 
 same-length : tie.Need-same-length Inv-loop μ-loop
