@@ -70,8 +70,8 @@ workable f p r end w t h = record {
 }
 
 -- no E - 64 has more than 63 bits
-pub short : (f : Series) (p : ℕ) (r : Row) → Position (formulaOf f) p → Fitting (formulaOf f) r → Short p r
-short f p r w t = omega (arith, w .high, last-small f, t .lead-small)
+pub short : (f : Series) (p : ℕ) (r : Row) → p ≤ formulaOf f .last → Fitting (formulaOf f) r → Short p r
+short f p r h t = omega (arith, h, last-small f, t .lead-small)
 
 -- no more terms than these
 pub fewer : (n : Numbers) (end less : ℕ) → less ≤ end → Workable n end → Workable n less

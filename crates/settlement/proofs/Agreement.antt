@@ -11,12 +11,14 @@ use lib.ListN.{length}
 use lib.Pow.{pow-pos}
 use Rattle.algebra.specs.Whole.{residue}
 use Rattle.algebra.proofs.Integers.{residue-is, diff-sub, turns, back}
+use Rattle.words.specs.Bytes.{bytesOf}
 use Rattle.series.specs.Series.{Formula, plus, minus, modulus, rangeSum}
 use Rattle.series.proofs.RangeSums.{range-sum-lt}
 use Rattle.run.specs.Refusal.{refusal, answer}
 use Rattle.run.specs.Run.{limitsOf, inRange, isTicket, ticketSum}
-use Rattle.ticket.specs.Parts.{partSum}
-use Rattle.ticket.specs.Work.{workRefusal, workAnswer, workBytes}
+use Rattle.run.proofs.Answering.{changed}
+use Rattle.ticket.specs.Work.{bothSized, partRefusal, partAnswer, workRefusal, workAnswer, workBytes}
+use Rattle.ticket.proofs.Parts.{whole-sum}
 use Rattle.sheet.specs.RoundTrip.{Fits}
 use Rattle.sheet.proofs.RoundTrip.{written-reads-back, accepted-is-written}
 use Rattle.settlement.specs.Agreement.{sideOf, Worked, Demand2}
@@ -40,22 +42,27 @@ module _ (F : Formula) (p C row block : ℕ) where
   unfolding ticketSum rangeSum sideOf
   signed = residue-back modulus (sideOf F plus p C row block) (sideOf F minus p C row block) (pow-pos 128)
 
-  not-refused : (out : List ℕ) → length out ≡ 16 → inRange (limitsOf F) p C ≡ true → isTicket (limitsOf F) C row block ≡ true
-      → workRefusal F p C row block out ≡ 0
-  unfolding workRefusal refusal
-  not-refused out l r t = rw (l, r, t) refl
+  not-refused : (out squarings : List ℕ) → length out ≡ 16 → length squarings ≡ 16 → inRange (limitsOf F) p C ≡ true
+      → isTicket (limitsOf F) C row block ≡ true → workRefusal F p C row block out squarings ≡ 0
+  unfolding workRefusal partRefusal bothSized refusal
+  not-refused out squarings l m r t = rw (l, m, r, t) refl
 
-  worked : (out : List ℕ) → length out ≡ 16 → inRange (limitsOf F) p C ≡ true → isTicket (limitsOf F) C row block ≡ true
-      → Worked F p C row block out
-  unfolding workAnswer workBytes partSum answer
-  worked out l r t =
-      let z : workRefusal F p C row block out ≡ 0 = not-refused out l r t in
-      record { answered = rw z refl; bytes-are = rw z refl; small = ticket-sum-lt; signed = signed }
+  worked : (out squarings : List ℕ) → length out ≡ 16 → length squarings ≡ 16 → inRange (limitsOf F) p C ≡ true
+      → isTicket (limitsOf F) C row block ≡ true → Worked F p C row block out squarings
+  unfolding workAnswer workRefusal partAnswer workBytes answer
+  worked out squarings l m r t =
+      let z : workRefusal F p C row block out squarings ≡ 0 = not-refused out squarings l m r t in
+      record {
+        answered = rw z refl;
+        bytes-are = sym (changed _ _ out z) ∙ ap (bytesOf 16) (whole-sum F p C row block);
+        small = ticket-sum-lt;
+        signed = signed;
+      }
 
 -- Demand 2
 pub demand2 : (F : Formula) → Fits F → Demand2 F
 demand2 F fits = record {
-  works = λ p C row block out. worked F p C row block out;
+  works = λ p C row block out squarings. worked F p C row block out squarings;
   reads-back = written-reads-back F fits;
   is-written = accepted-is-written F fits;
 }

@@ -10,7 +10,7 @@ use Rattle.series.specs.Series.{Formula}
 use Rattle.run.specs.Refusal.{Test, _⇐_, refusal, ascendAbove, ascend, Smallest}
 use Rattle.run.specs.Run.{limitsOf}
 use Rattle.run.proofs.Smallest.{here, later, smallest}
-use Rattle.ticket.specs.Work.{workRefusal}
+use Rattle.ticket.specs.Work.{partRefusal, workRefusal, quoteRefusal}
 use Rattle.ledger.specs.Calls.{openRefusal, ticketRefusal}
 use Rattle.sheet.specs.Calls.{writeRefusal, readRefusal, sheetRefusal}
 use Rattle.sheet.proofs.Many.{many-refused, many-listed}
@@ -41,8 +41,8 @@ module _ (F : Formula) (a : Arguments) where
   tables-ascend = refl
 
   first-of : FirstOf (tables F a)
-  unfolding FirstOf workRefusal openRefusal ticketRefusal writeRefusal readRefusal sheetRefusal lookRefusal closeRefusal
-  first-of = (refl, (refl, (refl, (refl, (refl, (refl, (refl, (refl, tt))))))))
+  unfolding FirstOf workRefusal quoteRefusal partRefusal openRefusal ticketRefusal writeRefusal readRefusal sheetRefusal lookRefusal closeRefusal
+  first-of = (refl, (refl, (refl, (refl, (refl, (refl, (refl, (refl, (refl, tt)))))))))
 
 -- in a call's list the conditions of 3 and 4 stand third and fourth
 three-or-four : (t u : Test) (b c : Bool) (ts : List Test) → (b ≡ false) ⊎ (c ≡ false) → ThreeOrFour (t ∷ u ∷ (3 ⇐ not b) ∷ (4 ⇐ not c) ∷ ts)

@@ -8,7 +8,6 @@ use Prim.Native.Nat.{ℕ, _+_, _*_, _-_, _/_, _%_, _^_, _≤_, _<_}
 use native.Mathlib.Nat.{pow-suc}
 use native.Mathlib.Numerals.{add-one}
 use native.Mathlib.Omega.{arith}
-use borrow.Author.Tests.{not-false}
 use lib.Dec.{lit<}
 use lib.IntN.{pos}
 use Rattle.words.specs.Bytes.{valueOf}
@@ -20,84 +19,74 @@ use Rattle.series.specs.Check.{check}
 use Rattle.series.proofs.Numbers.{count-grows}
 use Rattle.series.proofs.RangeSums.{range-sum-lt, split}
 use Rattle.series.proofs.ByHalves.{same-sum}
-use Rattle.run.specs.Run.{limitsOf, inRange, isTicket, bound, ticketSum}
-use Rattle.run.proofs.Answering.{passes, changed, not-refused}
-use Rattle.run.proofs.Blocks.{bound-grows, bound-le}
+use Rattle.run.specs.Run.{limitsOf, inRange, isTicket, bound}
+use Rattle.run.proofs.Answering.{changed, not-refused}
 use Rattle.run.proofs.Range.{range-of, ticket-block}
-use Rattle.ticket.specs.Parts.{cut, partSum}
-use Rattle.ticket.specs.Work.{workRefusal, workAnswer, workBytes}
+use Rattle.ticket.specs.Parts.{cut, partFirst, partEnd, partCount, partSum}
+use Rattle.ticket.specs.Work.{bothSized, partAnswer, workRefusal, workAnswer, workBytes}
 use Rattle.ticket.specs.declared.Part.{Part}
 use Rattle.ticket.specs.declared.Part.the-variants.{Whole, Lower, Upper}
+use Rattle.ticket.proofs.Parts.{rising, within, meet}
+use Rattle.ticket.proofs.Working.{all-passed}
 use Rattle.settlement.specs.Halves.{HalvesMakeWhole, HalvedWithin, Depths}
 
 module _ (F : Formula) (p C row block : ℕ) where
-  abbrev first : ℕ
-  first = bound (termCount F p) C block
-
-  abbrev end : ℕ
-  end = bound (termCount F p) C (block + 1)
-
-  abbrev middle : ℕ
-  middle = (first + end) / 2
-
   module _ (r : inRange (limitsOf F) p C ≡ true) (t : isTicket (limitsOf F) C row block ≡ true) where
-    rising : first ≤ end
-    rising = bound-grows (termCount F p) C block (block + 1) (range-of _ p C r .C-low) (omega arith)
-
     sums : (partSum F Lower p C row block + partSum F Upper p C row block) % modulus ≡ partSum F Whole p C row block
-    unfolding partSum cut ticketSum
+    unfolding partSum
     sums =
-        let l = rising in
-        let at : first + (middle - first) ≡ middle = omega (arith, l) in
-        let all : middle - first + (end - middle) ≡ end - first = omega (arith, l) in
-        ap (λ (n : ℕ). (rangeSum F p (rowAt F row) first (middle - first) + rangeSum F p (rowAt F row) n (end - middle)) % modulus) (sym at)
-        ∙ split F p (rowAt F row) first (middle - first) (end - middle) ∙ ap (rangeSum F p (rowAt F row) first) all
+        let m = meet F p C block r (ticket-block _ C row block t) in
+        let lower = partCount F Lower p C block in
+        let upper = partCount F Upper p C block in
+        ap (λ (n : ℕ). (rangeSum F p (rowAt F row) (partFirst F Lower p C block) lower + rangeSum F p (rowAt F row) n upper) % modulus) (sym (m .0))
+        ∙ split F p (rowAt F row) (partFirst F Lower p C block) lower upper ∙ ap₂ (rangeSum F p (rowAt F row)) (m .1) (m .2)
 
     -- neither half has more terms than half of K, rounded up
-    few : (depth : ℕ) → 0 < F .step → termCount F (F .last) ≤ 2 ^ (depth + 1) → (middle - first ≤ 2 ^ depth) × (end - middle ≤ 2 ^ depth)
+    few : (depth : ℕ) → 0 < F .step → termCount F (F .last) ≤ 2 ^ (depth + 1)
+        → (partCount F Lower p C block ≤ 2 ^ depth) × (partCount F Upper p C block ≤ 2 ^ depth)
+    unfolding partFirst partEnd cut
     few depth s h =
-        let l = rising in
-        let w = range-of _ p C r in
-        let k = bound-le (termCount F p) C (block + 1) (omega (arith, ticket-block _ C row block t)) in
-        let g = count-grows F p (F .last) s (w .p-high) in
+        let b = ticket-block _ C row block t in
+        let l = rising F p C block r b in
+        let k = within F p C block r b in
+        let g = count-grows F p (F .last) s (range-of _ p C r .p-high) in
         let d : 2 ^ (depth + 1) ≡ 2 ^ depth * 2 = ap (λ (n : ℕ). 2 ^ n) (add-one depth) ∙ pow-suc 2 depth in
         (omega (arith, l, k, g, d, h), omega (arith, l, k, g, d, h))
 
   part-sum-lt : (part : Part) → partSum F part p C row block < modulus
-  unfolding partSum ticketSum
-  part-sum-lt Whole = range-sum-lt F p _ _ _
-  part-sum-lt Lower = range-sum-lt F p _ _ _
-  part-sum-lt Upper = range-sum-lt F p _ _ _
+  unfolding partSum
+  part-sum-lt part = range-sum-lt F p _ _ _
 
-  -- where a call answers 0, it was handed a ticket, and left the bytes of the part's sum
-  taken : (out : List ℕ) → workAnswer F p C row block out ≡ pos 0
-      → (inRange (limitsOf F) p C ≡ true) × (isTicket (limitsOf F) C row block ≡ true)
-      × ((part : Part) → valueOf (workBytes F part p C row block out) ≡ partSum F part p C row block)
-  unfolding workAnswer workRefusal workBytes
-  taken out a =
+  -- where a call answers 0, no test applied, and it was handed a ticket
+  pub taken : (out squarings : List ℕ) → workAnswer F p C row block out squarings ≡ pos 0
+      → (workRefusal F p C row block out squarings ≡ 0) × (inRange (limitsOf F) p C ≡ true) × (isTicket (limitsOf F) C row block ≡ true)
+  unfolding workAnswer partAnswer workRefusal
+  taken out squarings a =
       let none = not-refused _ _ _ a .0 in
-      let size = passes 0 _ _ none in
-      let range = passes 1 _ _ (size .1) in
-      let ticket = passes 3 _ _ (range .1) in (
-        not-false _ (range .0),
-        not-false _ (ticket .0),
-        λ part. ap valueOf (sym (changed _ _ _ none)) ∙ value-bytes 16 (partSum F part p C row block) (part-sum-lt part),
-      )
+      let passed = all-passed F p C row block (bothSized out squarings) none in
+      (none, passed .1, passed .2)
 
-  bytes : (lower upper whole : List ℕ) → workAnswer F p C row block lower ≡ pos 0
-      → workAnswer F p C row block upper ≡ pos 0 → workAnswer F p C row block whole ≡ pos 0
-      → (valueOf (workBytes F Lower p C row block lower) + valueOf (workBytes F Upper p C row block upper)) % modulus
-      ≡ valueOf (workBytes F Whole p C row block whole)
-  bytes lower upper whole l u w =
-      let a = taken lower l in
-      ap₂ (λ (x y : ℕ). (x + y) % modulus) (a .2 Lower) (taken upper u .2 Upper) ∙ sums (a .0) (a .1) ∙ sym (taken whole w .2 Whole)
+  -- it left the bytes of the part's sum
+  left : (part : Part) (out squarings : List ℕ) → workAnswer F p C row block out squarings ≡ pos 0
+      → valueOf (workBytes F part p C row block out squarings) ≡ partSum F part p C row block
+  unfolding workBytes
+  left part out squarings a =
+      ap valueOf (sym (changed _ _ out (taken out squarings a .0))) ∙ value-bytes 16 (partSum F part p C row block) (part-sum-lt part)
+
+  bytes : (lower upper whole l u w : List ℕ) → workAnswer F p C row block lower l ≡ pos 0
+      → workAnswer F p C row block upper u ≡ pos 0 → workAnswer F p C row block whole w ≡ pos 0
+      → (valueOf (workBytes F Lower p C row block lower l) + valueOf (workBytes F Upper p C row block upper u)) % modulus
+      ≡ valueOf (workBytes F Whole p C row block whole w)
+  bytes lower upper whole l u w a b c =
+      let t = taken lower l a in
+      ap₂ (λ (x y : ℕ). (x + y) % modulus) (left Lower lower l a) (left Upper upper u b) ∙ sums (t .1) (t .2) ∙ sym (left Whole whole w c)
 
 pub halves-make-whole : (F : Formula) → HalvesMakeWhole F
 halves-make-whole F = record { sums = sums F; bytes = bytes F }
 
 -- for any formula, by the greatest number of terms
 pub halved-within : (F : Formula) (depth : ℕ) → 0 < F .step → termCount F (F .last) ≤ 2 ^ (depth + 1) → HalvedWithin F depth
-unfolding partSum cut
+unfolding partSum
 halved-within F depth s h = record {
   lower = λ p C row block r t. by-halves F p (rowAt F row) _ _ depth (few F p C row block r t depth s h .0);
   upper = λ p C row block r t. by-halves F p (rowAt F row) _ _ depth (few F p C row block r t depth s h .1);

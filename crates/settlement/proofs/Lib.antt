@@ -9,6 +9,7 @@ pub mod FirstDigits
 pub mod Agreement
 pub mod Halves
 pub mod Looks
+pub mod Squarings
 pub mod Facts
 pub mod Refused
 pub mod Runs

@@ -12,7 +12,7 @@ use Rattle.algebra.proofs.Booleans.{and-left, and-right}
 use Rattle.series.specs.Series.{Formula}
 use Rattle.run.specs.Refusal.{Test, refusal, answer}
 use Rattle.run.proofs.Answering.{finished, negated, stays}
-use Rattle.ticket.specs.Work.{workRefusal, workAnswer, workBytes}
+use Rattle.ticket.specs.Work.{partRefusal, partAnswer, workRefusal, workAnswer, workBytes, workSquarings, quoteRefusal, quoteAnswer, quoteSquarings}
 use Rattle.ledger.specs.Calls.{openRefusal, openAnswer, openBytes, ticketRefusal, ticketAnswer, ticketBytes}
 use Rattle.sheet.specs.Calls.{writeRefusal, writeAnswer, writeBytes, readRefusal, readAnswer, readList, readSums, sheetRefusal, sheetAnswer, sheetBytes}
 use Rattle.look.specs.Look.{lookRefusal, lookAnswer, lookBytes}
@@ -46,28 +46,12 @@ one-kept : (n : ℕ) (new old : List ℕ) → (n ≡ 0 → ⊥) → AllKept (sli
 unfolding AllKept
 one-kept n new old f = (stays n new old f, tt)
 
+two-kept : (n : ℕ) (new old new′ old′ : List ℕ) → (n ≡ 0 → ⊥)
+    → AllKept (slice old (cond (eqb n 0) new old) ∷ slice old′ (cond (eqb n 0) new′ old′) ∷ [])
+unfolding AllKept
+two-kept n new old new′ old′ f = (stays n new old f, (stays n new′ old′ f, tt))
+
 -- Demand 1
 pub demand1 : (F : Formula) → Demand1 F
-unfolding AllAnswered AllKept upToNine workRefusal workAnswer workBytes openRefusal openAnswer openBytes ticketRefusal ticketAnswer ticketBytes writeRefusal writeAnswer writeBytes readRefusal readAnswer readList readSums sheetRefusal sheetAnswer sheetBytes lookRefusal lookAnswer lookBytes closeRefusal closingAnswer closingBytes closeAnswer closeBytes
-demand1 F a = (
-  answered _ _ _ refl (one-kept _ _ _),
-  (
-    answered _ _ _ refl (one-kept _ _ _),
-    (
-      answered _ _ _ refl (one-kept _ _ _),
-      (
-        answered _ _ _ refl (one-kept _ _ _),
-        (
-          answered _ _ _ refl (one-kept _ _ _),
-          (
-            answered _ _ _ refl (one-kept _ _ _),
-            (
-              answered _ _ _ refl (λ f. (stays _ _ _ f, (stays _ _ _ f, tt))),
-              (answered _ _ _ refl (one-kept _ _ _), (answered _ _ _ refl (one-kept _ _ _), (answered _ _ _ refl (one-kept _ _ _), tt))),
-            ),
-          ),
-        ),
-      ),
-    ),
-  ),
-)
+unfolding AllAnswered upToNine workRefusal workAnswer workBytes workSquarings partRefusal partAnswer quoteRefusal quoteAnswer quoteSquarings openRefusal openAnswer openBytes ticketRefusal ticketAnswer ticketBytes writeRefusal writeAnswer writeBytes readRefusal readAnswer readList readSums sheetRefusal sheetAnswer sheetBytes lookRefusal lookAnswer lookBytes closeRefusal closingAnswer closingBytes closeAnswer closeBytes
+demand1 F a = (answered _ _ _ refl (two-kept _ _ _ _ _), (answered _ _ _ refl (two-kept _ _ _ _ _), (answered _ _ _ refl (two-kept _ _ _ _ _), (answered _ _ _ refl (one-kept _ _ _), (answered _ _ _ refl (one-kept _ _ _), (answered _ _ _ refl (one-kept _ _ _), (answered _ _ _ refl (one-kept _ _ _), (answered _ _ _ refl (one-kept _ _ _), (answered _ _ _ refl (one-kept _ _ _), (answered _ _ _ refl (two-kept _ _ _ _ _), (answered _ _ _ refl (one-kept _ _ _), (answered _ _ _ refl (one-kept _ _ _), (answered _ _ _ refl (one-kept _ _ _), tt)))))))))))))

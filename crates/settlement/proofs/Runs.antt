@@ -14,6 +14,7 @@ use Rattle.settlement.proofs.Agreement.{demand2}
 use Rattle.settlement.proofs.Theorem.{demand3}
 use Rattle.settlement.proofs.Facts.{facts}
 use Rattle.settlement.proofs.Looks.{looks-hold}
+use Rattle.settlement.proofs.Squarings.{squarings-hold, countable}
 use Rattle.settlement.proofs.OneTotal.{as-before}
 use Rattle.settlement.proofs.EveryTerm.{no-wider}
 use Rattle.settlement.proofs.Filler.{filled-exists}
@@ -25,6 +26,7 @@ every-formula F asked = record {
   demand3 = demand3 F (asked .fits .near) (asked .positive) (asked .rest);
   facts = facts F (asked .fits .near);
   looks = looks-hold F (asked .fits .near);
+  squarings = squarings-hold F (asked .fits .near) (asked .countable);
   as-before = as-before F (asked .fits .near);
   no-wider = no-wider F;
   filled = λ p C. filled-exists F p C;
@@ -36,7 +38,7 @@ fits f = let h = few-rows f in record { few = omega (arith, h); near = near-posi
 
 -- what is asked of a formula, by the name that the code has for it
 pub asked : (f : Series) → Asked (formulaOf f)
-asked f = record { fits = fits f; positive = positive f; rest = rest f }
+asked f = record { fits = fits f; positive = positive f; rest = rest f; countable = countable f }
 
 pub runs : Runs
 runs = record {

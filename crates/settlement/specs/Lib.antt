@@ -6,5 +6,6 @@ pub mod Figures
 pub mod Agreement
 pub mod Halves
 pub mod Looks
+pub mod Squarings
 pub mod Facts
 pub mod Runs

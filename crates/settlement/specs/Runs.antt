@@ -1,5 +1,5 @@
 -- All that is promised of the runs of a formula, in one statement for every formula that meets what is asked of it; and that Bellard's runs
--- and check runs are two instances of it. Documents 01 and 02, slips 4 and 5.
+-- and check runs are two instances of it. Documents 01 and 02, slips 4, 5 and 7.
 use mathlib.Core.List.{List}
 use Prim.Native.Nat.{ℕ, _<_}
 use Rattle.series.specs.Series.{Formula, termCount}
@@ -16,23 +16,26 @@ use Rattle.settlement.specs.OneTotal.{AsBefore}
 use Rattle.settlement.specs.EveryTerm.{NoWider}
 use Rattle.settlement.specs.Facts.{Facts}
 use Rattle.settlement.specs.Looks.{Looks}
+use Rattle.settlement.specs.Squarings.{Countable, Squarings}
 
 -- What is asked: rows fit a byte and positions 8 bytes, every N is at least 1, and the exact terms that are not charged, together with all from
--- K on, at every length add up to less than one unit on each side.
+-- K on, at every length add up to less than one unit on each side; and what counting squarings asks.
 pub record Asked (F : Formula) : Type 0 where
   pub fits : Fits F
   pub positive : Positive F
   pub rest : (p : ℕ) → RestBelowUnit isCharged F p (termCount F p)
+  pub countable : Countable F
 
 -- What is promised: the three demands; the smallest number that applies, a sheet as its tickets one by one, too many tickets refused by 3 or
--- 4, the halves of a ticket; looks that equal posts onto a copy; digits as from a ledger with one total; no digit lost since every term was charged;
--- and that what demand 3 supposes can be had.
+-- 4, the halves of a ticket; looks that equal posts onto a copy; squarings handed back and quoted; digits as from a ledger with one total; no digit
+-- lost since every term was charged; and that what demand 3 supposes can be had.
 pub record Promised (F : Formula) : Type 0 where
   pub demand1 : Demand1 F
   pub demand2 : Demand2 F
   pub demand3 : Demand3 F
   pub facts : Facts F
   pub looks : Looks F
+  pub squarings : Squarings F
   pub as-before : AsBefore F
   pub no-wider : NoWider F
   -- a list of posts that fills the run, and a D above 0 that makes the exact terms whole, at every length

@@ -4,17 +4,22 @@ use mathlib.Core.Path.{_≡_}
 use mathlib.Core.Bool.{true}
 use mathlib.Core.Logic.{_⊎_}
 use mathlib.Core.List.{List, [], _∷_}
-use Prim.Native.Nat.{ℕ, _+_, _*_, _^_, _≤_}
+use Prim.Native.Nat.{ℕ, _+_, _*_, _^_, _≤_, _<_}
 use lib.IntN.{pos, negℤ}
 use lib.ListN.{length}
 use Rattle.words.specs.Bytes.{valueOf}
-use Rattle.series.specs.Series.{Formula, rowAt}
-use Rattle.series.specs.Squarings.{squarings, byLengths}
+use Rattle.series.specs.Series.{Formula, rowCount, rowAt}
+use Rattle.series.specs.Squarings.{squarings, byLengths, Short}
 use Rattle.run.specs.Run.{limitsOf, inRange, isTicket}
 use Rattle.ticket.specs.Parts.{partFirst, partEnd, partCount, partSquarings}
 use Rattle.ticket.specs.Work.{workAnswer, workBytes, workSquarings, quoteAnswer, quoteSquarings}
 use Rattle.ticket.specs.declared.Part.{Part}
 use Rattle.ticket.specs.declared.Part.the-variants.{Whole, Lower, Upper}
+
+-- What counting asks of a formula: E falls from each term to the next, and no E - 64 of its runs has more than 63 bits.
+pub record Countable (F : Formula) : Type 0 where
+  pub falls : 0 < F .step
+  pub short : (p row : ℕ) → p ≤ F .last → row < rowCount F → Short p (rowAt F row)
 
 pub record Squarings (F : Formula) : Type 0 where
   -- where working answers 0, the number in the squarings' bytes is the count over the part's terms

@@ -10,7 +10,7 @@ use Rattle.run.specs.Run.{limitsOf, inRange, isTicket, bound, ticketSum}
 use Rattle.run.proofs.Blocks.{bound-grows, bound-le}
 use Rattle.run.proofs.Positions.{position}
 use Rattle.run.proofs.Range.{range-of, ticket-row, ticket-block}
-use Rattle.ticket.specs.Parts.{cut, partFirst, partEnd, partSum}
+use Rattle.ticket.specs.Parts.{cut, partFirst, partEnd, partCount, partSum}
 use Rattle.ticket.specs.declared.Part.{Part}
 use Rattle.ticket.specs.declared.Part.the-variants.{Whole, Lower, Upper}
 
@@ -31,6 +31,13 @@ module _ (F : Formula) (p C block : ℕ) (r : inRange (limitsOf F) p C ≡ true)
   ordered Whole = (rising, within)
   ordered Lower = (omega (arith, rising), omega (arith, rising, within))
   ordered Upper = (omega (arith, rising), within)
+
+  -- the lower half begins where the ticket does, and the upper half where the lower one ends
+  pub meet : (partFirst F Lower p C block + partCount F Lower p C block ≡ partFirst F Upper p C block)
+      × (partFirst F Lower p C block ≡ partFirst F Whole p C block)
+      × (partCount F Lower p C block + partCount F Upper p C block ≡ partCount F Whole p C block)
+  unfolding partFirst partEnd cut
+  meet = (omega (arith, rising), refl, omega (arith, rising))
 
 -- what working or quoting them asks
 pub ranged : (F : Formula) (part : Part) (p C row block first end : ℕ) → inRange (limitsOf F) p C ≡ true → isTicket (limitsOf F) C row block ≡ true

@@ -35,7 +35,7 @@ returns c =
     let few : a .end - a .first < 2 ^ 63 = omega (arith, count-small (a .f) (a .p) (s .pre .0)) in
     let worked = c .by-halves .ensures _ _ _ (c .before .numbers-of .ensures) in (
       worked .0,
-      exact (formulaOf (a .f)) (a .p) r (a .first) _ _ (short (a .f) (a .p) r (s .pre .0) (fitting (a .f) (a .row) (s .pre .1))) few (worked .1),
+      exact (formulaOf (a .f)) (a .p) r (a .first) _ _ (short (a .f) (a .p) r (s .pre .0 .high) (fitting (a .f) (a .row) (s .pre .1))) few (worked .1),
     )
 
 pub range-sum-spec : {M : Type 1} → statement M

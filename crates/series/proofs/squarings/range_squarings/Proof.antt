@@ -117,7 +117,7 @@ returns c =
     let r = rowAt (formulaOf (a .f)) (a .row) in
     let all : l .loop .b ≡ 63 = omega (arith, l .loop .inv .1) in
     let few : a .end - a .first < 2 ^ 63 = omega (arith, count-small (a .f) (a .p) (s .pre .0)) in
-    let h = short (a .f) (a .p) r (s .pre .0) (fitting (a .f) (a .row) (s .pre .1)) in
+    let h = short (a .f) (a .p) r (s .pre .0 .high) (fitting (a .f) (a .row) (s .pre .1)) in
     exact (formulaOf (a .f)) (a .p) r (a .first) _ _ h few
     (l .loop .inv .2 _ _ _ (numbers .numbers-of .ensures) .0
     ∙ ap (λ (b : ℕ). passed (formulaOf (a .f)) (a .p) r (a .first) (a .end) b % modulus) all

@@ -105,7 +105,7 @@ returns c =
     let few : a .end - a .first < 2 ^ 63 = omega (arith, count-small (a .f) (a .p) (s .pre .0)) in
     let worked = c .before .loop .inv .2 _ _ _ (c .before .before .numbers-of .ensures) in (
       worked .0 ∙ ap (λ (k : ℕ). rangeSum (formulaOf (a .f)) (a .p) r (a .first) (k - a .first)) all,
-      exact (formulaOf (a .f)) (a .p) r (a .first) _ _ (short (a .f) (a .p) r (s .pre .0) (fitting (a .f) (a .row) (s .pre .1))) few
+      exact (formulaOf (a .f)) (a .p) r (a .first) _ _ (short (a .f) (a .p) r (s .pre .0 .high) (fitting (a .f) (a .row) (s .pre .1))) few
           (worked .1 ∙ ap (λ (k : ℕ). rangeSquarings (formulaOf (a .f)) (a .p) r (a .first) (k - a .first) % modulus) all),
     )
 
