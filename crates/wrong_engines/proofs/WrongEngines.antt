@@ -1,7 +1,8 @@
 -- The engine is none of the wrong engines. Closings part from it at p = 1, which settles thirty digits, or at p = 5, which settles
--- twenty-nine, or on a full ledger whose total lies at the edge of a digit; tickets, halves and posts at p = 1 with one block, in rows 0 and 1.
+-- twenty-nine, or on a full ledger whose total lies at the edge of a digit; tickets, halves and posts at p = 1 with one block, in rows 0 and 1; counts of
+-- squarings at p = 1 as well, in rows 0, 2 and 3, and at the last position.
 -- Assumes nothing.
-use mathlib.Core.Path.{_≡_, refl, sym, ap, ap₂, _∙_}
+use mathlib.Core.Path.{_≡_, refl, sym, ap, ap₂, subst, _∙_}
 use mathlib.Core.Bool.{Bool, true, false, not, cond}
 use mathlib.Core.List.{List, [], _∷_, _++_}
 use Prim.Native.Nat.{ℕ, _+_, _*_, _-_, _/_, _%_, _^_, _<_}
@@ -11,6 +12,7 @@ use lib.Dec.{eqb, lit<}
 use lib.IntN.{ℤ, pos, negsuc, pos-ne-negsuc}
 use lib.ListN.{getD, drop, replicate}
 use lib.Pow.{pow-pos}
+use Rattle.algebra.specs.Bits.{bitsIn, bitLength}
 use Rattle.algebra.specs.Sum.{sum}
 use Rattle.algebra.specs.Test.{allBelow}
 use Rattle.algebra.proofs.Booleans.{not-both}
@@ -19,6 +21,7 @@ use Rattle.algebra.proofs.Sums.{sum-ext}
 use Rattle.algebra.specs.Whole.{residue, sameℤ}
 use Rattle.words.specs.Bytes.{bytesOf, valueOf, field}
 use Rattle.series.specs.Series.{modulus, size, isAdded, termCount, onSide, rowSum, overRows, sideSum, sizesSum, rangeSum}
+use Rattle.series.specs.Squarings.{squarings, rangeSquarings}
 use Rattle.series.specs.Bellard.{bellard}
 use Rattle.series.specs.declared.Series.the-variants.{Bellard}
 use Rattle.interval.specs.Interval.{Rule, isCharged, everyTerm, charges, low, high}
@@ -26,8 +29,8 @@ use Rattle.interval.specs.Digits.{settledUpTo, settled, hexDigit, hexText, lowD
 use Rattle.run.specs.Refusal.{_⇐_, refusal, answer}
 use Rattle.run.proofs.Answering as answering
 use Rattle.run.specs.Run.{inRange, isTicket, bound, ticketSum}
-use Rattle.ticket.specs.Parts.{cut, partSum}
-use Rattle.ticket.specs.Work.{workRefusal, workBytes}
+use Rattle.ticket.specs.Parts.{cut, partFirst, partEnd, partSum, partSquarings}
+use Rattle.ticket.specs.Work.{bothSized, partRefusal, workRefusal, workBytes, workSquarings}
 use Rattle.ticket.specs.declared.Part.the-variants.{Whole, Lower, Upper}
 use Rattle.ledger.specs.Ledger.{fresh, enter, mark, addTo, rowSumIn, totalOf, viewOf, posIn, blocksIn, totalIn, bitIn, markIn, inOrder}
 use Rattle.ledger.specs.Plain.{Plain, opened, plainView, encode, fullPlain}
@@ -40,12 +43,14 @@ use Rattle.closing.proofs.Closing.{nine-alone}
 use Rattle.closing.proofs.Encoded.{good-full, answer-by}
 use Rattle.settlement.specs.Settlement.{Filled, ClosesWith, rowSums, allSums}
 use Rattle.settlement.specs.Figures.{firstDigits, inRow}
+use Rattle.settlement.specs.Squarings.{SquaringsAre, AllSquaringsAre}
 use Rattle.settlement.proofs.Runs.{runs}
 use Rattle.settlement.proofs.Filling.{kept-posts, kept-opened}
 use Rattle.settlement.proofs.Figures.{spreads}
+use Rattle.settlement.proofs.Squarings.{squaring-figures-hold}
 use Rattle.settlement.proofs.Filler.{filled-exists}
 use Rattle.settlement.proofs.FirstDigits.{closes-with, first-digits}
-use Rattle.wrong_engines.specs.WrongEngines.{lim, AnswersAs, LeavesAs, ClosesAs, byRule, aboveZero, everyAdded, everySubtracted, sameDigits, WorksAs, oneSum, cutInBoth, cutInNeither, ownSigns, PostsAs, doesNothing, leftBy, fillEntry, fillsFirst, alwaysNine, nineUnseen, alwaysEight, madeUp, oneLess, byTotal, withoutRow, withoutCarry, wrongSize, wordBound, towardZero, settledTowardZero, Met, ShutOut}
+use Rattle.wrong_engines.specs.WrongEngines.{lim, AnswersAs, LeavesAs, ClosesAs, byRule, aboveZero, everyAdded, everySubtracted, sameDigits, WorksAs, oneSum, cutInBoth, cutInNeither, ownSigns, CountsAs, countedBy, rightOf, topBitToo, ofWholeE, inOneWord, PostsAs, doesNothing, leftBy, fillEntry, fillsFirst, alwaysNine, nineUnseen, alwaysEight, madeUp, oneLess, byTotal, withoutRow, withoutCarry, wrongSize, wordBound, towardZero, settledTowardZero, Met, ShutOut}
 
 -- 6A8885A308D313198A2E03707344A, the digits from position 5 on that a run settles
 abbrev fifthDigits : List ℕ
@@ -263,37 +268,74 @@ wrong-rules = (
 -- ---- tickets: row 0 and row 1 at p = 1 have sums with other top bytes
 
 one-sum : (w : List ℕ) → WorksAs Whole (oneSum w) → ⊥
-unfolding workBytes workRefusal refusal inRange isTicket partSum ticketSum rangeSum bound size termCount rowSum sum onSide isAdded residue bytesOf
+unfolding workBytes workRefusal partRefusal bothSized refusal inRange isTicket partSum partFirst partEnd rangeSum bound size termCount rowSum sum onSide isAdded residue bytesOf
 one-sum w same =
-    let a = same 1 1 0 0 (replicate 16 0) refl refl refl in
-    let b = same 1 1 1 0 (replicate 16 0) refl refl refl in
+    let a = same 1 1 0 0 (replicate 16 0) (replicate 16 0) refl refl refl refl in
+    let b = same 1 1 1 0 (replicate 16 0) (replicate 16 0) refl refl refl refl in
     let z = ap (λ (l : List ℕ). getD l 15 0) (a ∙ sym b) in
     omega (arith, z)
 
 -- ---- halves: those of row 0 at p = 1, C = 1, whose fourteen terms are cut at term 7; the byte that differs is named
 
 cut-in-both : WorksAs Lower cutInBoth → ⊥
-unfolding cutInBoth workBytes workRefusal refusal inRange isTicket partSum cut rangeSum bound size termCount rowSum sum onSide isAdded residue bytesOf
+unfolding cutInBoth workBytes workRefusal partRefusal bothSized refusal inRange isTicket partSum partFirst partEnd cut rangeSum bound size termCount rowSum sum onSide isAdded residue bytesOf
 cut-in-both same =
-    let z : _≡_ {A = ℕ} 231 249 = ap (λ (l : List ℕ). getD l 6 0) (same 1 1 0 0 (replicate 16 0) refl refl refl) in
+    let z : _≡_ {A = ℕ} 231 249 = ap (λ (l : List ℕ). getD l 6 0) (same 1 1 0 0 (replicate 16 0) (replicate 16 0) refl refl refl refl) in
     omega (arith, z)
 
 cut-in-neither : WorksAs Upper cutInNeither → ⊥
-unfolding cutInNeither workBytes workRefusal refusal inRange isTicket partSum cut rangeSum bound size termCount rowSum sum onSide isAdded residue bytesOf
+unfolding cutInNeither workBytes workRefusal partRefusal bothSized refusal inRange isTicket partSum partFirst partEnd cut rangeSum bound size termCount rowSum sum onSide isAdded residue bytesOf
 cut-in-neither same =
-    let z : _≡_ {A = ℕ} 0 255 = ap (λ (l : List ℕ). getD l 15 0) (same 1 1 0 0 (replicate 16 0) refl refl refl) in
+    let z : _≡_ {A = ℕ} 0 255 = ap (λ (l : List ℕ). getD l 15 0) (same 1 1 0 0 (replicate 16 0) (replicate 16 0) refl refl refl refl) in
     omega (arith, z)
 
 one-half-twice : WorksAs Upper (workBytes bellard Lower) → ⊥
-unfolding workBytes workRefusal refusal inRange isTicket partSum cut rangeSum bound size termCount rowSum sum onSide isAdded residue bytesOf
+unfolding workBytes workRefusal partRefusal bothSized refusal inRange isTicket partSum partFirst partEnd cut rangeSum bound size termCount rowSum sum onSide isAdded residue bytesOf
 one-half-twice same =
-    let z : _≡_ {A = ℕ} 0 128 = ap (λ (l : List ℕ). getD l 15 0) (same 1 1 0 0 (replicate 16 0) refl refl refl) in
+    let z : _≡_ {A = ℕ} 0 128 = ap (λ (l : List ℕ). getD l 15 0) (same 1 1 0 0 (replicate 16 0) (replicate 16 0) refl refl refl refl) in
     omega (arith, z)
 
 own-signs : WorksAs Upper ownSigns → ⊥
-unfolding ownSigns workBytes workRefusal refusal inRange isTicket partSum cut rangeSum bound size termCount rowSum sum onSide isAdded residue bytesOf
+unfolding ownSigns workBytes workRefusal partRefusal bothSized refusal inRange isTicket partSum partFirst partEnd cut rangeSum bound size termCount rowSum sum onSide isAdded residue bytesOf
 own-signs same =
-    let z : _≡_ {A = ℕ} 0 255 = ap (λ (l : List ℕ). getD l 15 0) (same 1 1 0 0 (replicate 16 0) refl refl refl) in
+    let z : _≡_ {A = ℕ} 0 255 = ap (λ (l : List ℕ). getD l 15 0) (same 1 1 0 0 (replicate 16 0) (replicate 16 0) refl refl refl refl) in
+    omega (arith, z)
+
+-- ---- squarings
+
+-- working that is not refused leaves their bytes
+left-squarings : CountsAs (partSquarings bellard Whole)
+unfolding workSquarings workRefusal partRefusal bothSized refusal
+left-squarings p C row block out count l m r t = rw (l, m, r, t) refl
+
+counted-rightly : (p C row block : ℕ) → partSquarings bellard Whole p C row block ≡ countedBy 128 rightOf p C row block
+unfolding partSquarings rangeSquarings squarings countedBy
+counted-rightly p C row block = refl
+
+-- at p = 1, C = 1 row 2 has one term with E above 127, which is 130, row 3 one, which is 128, and row 0 has one with E = 127
+module _ (W : ℕ → ℕ → ℕ → ℕ → ℕ) (same : CountsAs W) where
+  both : (p row : ℕ) → inRange lim p 1 ≡ true → isTicket lim 1 row 0 ≡ true
+      → bytesOf 16 (partSquarings bellard Whole p 1 row 0) ≡ bytesOf 16 (W p 1 row 0)
+  both p row r t =
+      sym (left-squarings p 1 row 0 (replicate 16 0) (replicate 16 0) refl refl r t) ∙ same p 1 row 0 (replicate 16 0) (replicate 16 0) refl refl r t
+
+wrong-counts : (CountsAs (countedBy 128 topBitToo) → ⊥) × (CountsAs (countedBy 127 rightOf) → ⊥) × (CountsAs (countedBy 129 rightOf) → ⊥)
+    × (CountsAs (countedBy 128 ofWholeE) → ⊥)
+unfolding partSquarings rangeSquarings squarings countedBy bitLength bitsIn sum partFirst partEnd bound termCount inRange isTicket bytesOf
+wrong-counts = (
+  λ same. let z : _≡_ {A = ℕ} 6 7 = ap (λ (l : List ℕ). getD l 0 0) (both _ same 1 2 refl refl) in omega (arith, z),
+  λ same. let z : _≡_ {A = ℕ} 0 5 = ap (λ (l : List ℕ). getD l 0 0) (both _ same 1 0 refl refl) in omega (arith, z),
+  λ same. let z : _≡_ {A = ℕ} 6 0 = ap (λ (l : List ℕ). getD l 0 0) (both _ same 1 3 refl refl) in omega (arith, z),
+  λ same. let z : _≡_ {A = ℕ} 6 7 = ap (λ (l : List ℕ). getD l 0 0) (both _ same 1 2 refl refl) in omega (arith, z),
+)
+
+-- at p = 2 ^ 60 the ninth byte of row 0's count is 1
+in-one-word : CountsAs inOneWord → ⊥
+unfolding inOneWord AllSquaringsAre SquaringsAre inRange isTicket bytesOf
+in-one-word same =
+    let count : partSquarings bellard Whole (2 ^ 60) 1 0 0 ≡ 27670116110564327790 = squaring-figures-hold .0 .1 .1 .1 .1 .1 .1 .0 in
+    let e = subst (λ (n : ℕ). bytesOf 16 n ≡ bytesOf 16 (n % 2 ^ 64)) count (both _ same (2 ^ 60) 0 refl refl) in
+    let z : _≡_ {A = ℕ} 1 0 = ap (λ (l : List ℕ). getD l 8 0) e in
     omega (arith, z)
 
 -- ---- posts: the ticket of row 0 at p = 1, C = 1, with its right sum
@@ -337,6 +379,11 @@ shut-out = record {
   cut-in-neither = cut-in-neither;
   one-half-twice = one-half-twice;
   own-signs = own-signs;
+  top-bit-too = wrong-counts .0;
+  counted-at-127 = wrong-counts .1;
+  not-counted-at-128 = wrong-counts .2;
+  of-whole-E = wrong-counts .3;
+  in-one-word = in-one-word;
   does-nothing = does-nothing;
   fills-first = fills-first;
   product-in-a-word = (refl, λ e. omega (arith, e));
@@ -354,6 +401,8 @@ met = record {
   answers = λ p C range posts f out room. refl;
   leaves = λ p C range posts f out room. refl;
   closes = λ s digits. refl;
-  works = λ part p C row block out l r t. refl;
+  works = λ part p C row block out count l m r t. refl;
+  counts = λ p C row block out count l m r t. left-squarings p C row block out count l m r t;
+  counts-by = λ p C row block out count l m r t. left-squarings p C row block out count l m r t ∙ ap (bytesOf 16) (counted-rightly p C row block);
   posts = λ p C range posts. posts-left (fresh lim p C) posts;
 }

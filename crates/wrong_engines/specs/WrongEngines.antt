@@ -1,13 +1,14 @@
 -- The wrong engines that document 01 names under "Traps of this arithmetic" and "For those who test", where no edit of the code can be
--- them, wrong totals of the row sums, wrong halves of a ticket, and wrong rules of charging: each is written down by what it answers or leaves, and
+-- them, wrong totals of the row sums, wrong halves of a ticket, wrong rules of charging, and wrong counts of squarings: each is written down by what it answers or leaves, and
 -- `ShutOut` says that the engine is none of them. Nothing of the engine rests on these definitions.
 use mathlib.Core.Path.{_≡_}
 use mathlib.Core.Bool.{Bool, true, not, cond, _||_}
 use mathlib.Core.List.{List, [], _∷_, _++_, foldl}
 use Prim.Native.Nat.{ℕ, zero, suc, _+_, _*_, _-_, _/_, _%_, _^_, _<_}
-use lib.Dec.{eqb, ltb}
+use lib.Dec.{eqb, leb, ltb}
 use lib.IntN.{ℤ, pos, negsuc, negℤ, subℕ}
 use lib.ListN.{length, drop}
+use Rattle.algebra.specs.Bits.{bitLength}
 use Rattle.algebra.specs.Sum.{sum}
 use Rattle.algebra.specs.Test.{allBelow}
 use Rattle.algebra.specs.Whole.{residue, sameℤ}
@@ -17,8 +18,8 @@ use Rattle.series.specs.Bellard.{bellard}
 use Rattle.interval.specs.Interval.{Rule, isCharged, everyTerm, unitAt}
 use Rattle.run.specs.Refusal.{_⇐_, refusal, answer}
 use Rattle.run.specs.Run.{Limits, limitsOf, inRange, isTicket, bound}
-use Rattle.ticket.specs.Parts.{cut}
-use Rattle.ticket.specs.Work.{workBytes}
+use Rattle.ticket.specs.Parts.{cut, partFirst, partCount, partSquarings}
+use Rattle.ticket.specs.Work.{workBytes, workSquarings}
 use Rattle.ticket.specs.declared.Part.{Part}
 use Rattle.ticket.specs.declared.Part.the-variants.{Whole, Lower, Upper}
 use Rattle.ledger.specs.Ledger.{ledgerSize, viewOf, posIn, blocksIn, rowSumIn, totalOf, totalIn, bitIn, inOrder, fresh, enter}
@@ -109,34 +110,65 @@ everySubtracted F p r k = not (isAdded F r k) || isCharged F p r k
 -- ---- tickets
 
 -- the engine's working of this part of every ticket leaves the bytes that W leaves
-abbrev pub WorksAs : Part → (ℕ → ℕ → ℕ → ℕ → List ℕ → List ℕ) → Type 0
+abbrev pub WorksAs : Part → (ℕ → ℕ → ℕ → ℕ → List ℕ → List ℕ → List ℕ) → Type 0
 WorksAs part W =
-    (p C row block : ℕ) (out : List ℕ) → length out ≡ 16 → inRange lim p C ≡ true → isTicket lim C row block ≡ true
-    → workBytes bellard part p C row block out ≡ W p C row block out
+    (p C row block : ℕ) (out count : List ℕ) → length out ≡ 16 → length count ≡ 16 → inRange lim p C ≡ true → isTicket lim C row block ≡ true
+    → workBytes bellard part p C row block out count ≡ W p C row block out count
 
 -- one sum for all tickets
-abbrev pub oneSum : List ℕ → ℕ → ℕ → ℕ → ℕ → List ℕ → List ℕ
-oneSum w p C row block out = w
+abbrev pub oneSum : List ℕ → ℕ → ℕ → ℕ → ℕ → List ℕ → List ℕ → List ℕ
+oneSum w p C row block out count = w
 
 -- halves, by their sums (document 02, slip 3): the term at the cut is given to the lower half, too
-unfoldable pub cutInBoth : ℕ → ℕ → ℕ → ℕ → List ℕ → List ℕ
-cutInBoth p C row block out =
+unfoldable pub cutInBoth : ℕ → ℕ → ℕ → ℕ → List ℕ → List ℕ → List ℕ
+cutInBoth p C row block out count =
     let first = bound (termCount bellard p) C block in
     bytesOf 16 (rangeSum bellard p (rowAt bellard row) first (cut bellard p C block + 1 - first))
 
 -- it is left out of the upper half
-unfoldable pub cutInNeither : ℕ → ℕ → ℕ → ℕ → List ℕ → List ℕ
-cutInNeither p C row block out =
+unfoldable pub cutInNeither : ℕ → ℕ → ℕ → ℕ → List ℕ → List ℕ → List ℕ
+cutInNeither p C row block out count =
     let end = bound (termCount bellard p) C (block + 1) in
     bytesOf 16 (rangeSum bellard p (rowAt bellard row) (cut bellard p C block + 1) (end - (cut bellard p C block + 1)))
 
 -- the upper half's signs are counted from its own first term, as if that were term 0
-unfoldable pub ownSigns : ℕ → ℕ → ℕ → ℕ → List ℕ → List ℕ
-ownSigns p C row block out =
+unfoldable pub ownSigns : ℕ → ℕ → ℕ → ℕ → List ℕ → List ℕ → List ℕ
+ownSigns p C row block out count =
     let r = rowAt bellard row in
     let sizes : ℕ → ℕ = λ j. size bellard p r (cut bellard p C block + j) in
-    let count = bound (termCount bellard p) C (block + 1) - cut bellard p C block in
-    bytesOf 16 (residue modulus (subℕ (rowSum bellard plus r sizes 0 count) (rowSum bellard minus r sizes 0 count)))
+    let n = bound (termCount bellard p) C (block + 1) - cut bellard p C block in
+    bytesOf 16 (residue modulus (subℕ (rowSum bellard plus r sizes 0 n) (rowSum bellard minus r sizes 0 n)))
+
+-- ---- squarings (document 02, slip 7)
+
+-- the squarings that the engine's working of every ticket leaves in the bytes lent for them are those that W gives
+abbrev pub CountsAs : (ℕ → ℕ → ℕ → ℕ → ℕ) → Type 0
+CountsAs W =
+    (p C row block : ℕ) (out count : List ℕ) → length out ≡ 16 → length count ≡ 16 → inRange lim p C ≡ true → isTicket lim C row block ≡ true
+    → workSquarings bellard Whole p C row block out count ≡ bytesOf 16 (W p C row block)
+
+-- a ticket's squarings where a term with E of `least` or more takes as many as `of E` says, and any other none
+unfoldable pub countedBy : ℕ → (ℕ → ℕ) → ℕ → ℕ → ℕ → ℕ → ℕ
+countedBy least of p C row block =
+    let r = rowAt bellard row in
+    sum (λ k. cond (leb (fall bellard k + least) (rise p r)) (of (rise p r - fall bellard k)) 0) (partFirst bellard Whole p C block)
+    (partCount bellard Whole p C block)
+
+-- the right count is such a one
+abbrev pub rightOf : ℕ → ℕ
+rightOf E = bitLength (E - 64) - 1
+
+-- the top bit is counted as well
+abbrev pub topBitToo : ℕ → ℕ
+topBitToo E = bitLength (E - 64)
+
+-- the bit length of E is taken in place of that of E - 64
+abbrev pub ofWholeE : ℕ → ℕ
+ofWholeE E = bitLength E - 1
+
+-- the count is kept in one word
+unfoldable pub inOneWord : ℕ → ℕ → ℕ → ℕ → ℕ
+inOneWord p C row block = partSquarings bellard Whole p C row block % 2 ^ 64
 
 -- ---- posts, by what they leave of a ledger
 
@@ -184,6 +216,8 @@ pub record Met : Type 0 where
   pub leaves : LeavesAs (closeBytes bellard)
   pub closes : ClosesAs (byRule isCharged)
   pub works : (part : Part) → WorksAs part (workBytes bellard part)
+  pub counts : CountsAs (partSquarings bellard Whole)
+  pub counts-by : CountsAs (countedBy 128 rightOf)
   pub posts : PostsAs (postBytes lim)
 
 -- ---- the engine is none of the wrong ones
@@ -206,6 +240,11 @@ pub record ShutOut : Type 0 where
   pub cut-in-neither : WorksAs Upper cutInNeither → ⊥
   pub one-half-twice : WorksAs Upper (workBytes bellard Lower) → ⊥
   pub own-signs : WorksAs Upper ownSigns → ⊥
+  pub top-bit-too : CountsAs (countedBy 128 topBitToo) → ⊥
+  pub counted-at-127 : CountsAs (countedBy 127 rightOf) → ⊥
+  pub not-counted-at-128 : CountsAs (countedBy 129 rightOf) → ⊥
+  pub of-whole-E : CountsAs (countedBy 128 ofWholeE) → ⊥
+  pub in-one-word : CountsAs inOneWord → ⊥
   pub does-nothing : PostsAs doesNothing → ⊥
   pub fills-first : PostsAs fillsFirst → ⊥
   -- at p = 2 ^ 60, C = 256, block 39 would be empty; it is not
