@@ -18,6 +18,10 @@ fn ticket(p: u64, c: u64, row: u64, block: u64) {
     show::ticket(Series::Check, p, c, row, block);
 }
 
+fn quotes_of(p: u64, c: u64, row: u64, block: u64) {
+    show::quotes(Series::Check, p, c, row, block);
+}
+
 fn halves_of(p: u64, c: u64, row: u64, block: u64) {
     show::halves(Series::Check, p, c, row, block);
 }
@@ -160,6 +164,24 @@ fn refusals() {
     halves_of(1, 1, 4, 0);
 }
 
+// Quotes, the last position among them.
+fn quotes() {
+    quotes_of(1, 1, 0, 0);
+    quotes_of(1, 1, 1, 0);
+    quotes_of(1, 256, 2, 7);
+    quotes_of(17, 7, 1, 0);
+    quotes_of(12345, 7, 3, 3);
+    quotes_of(576460752303423488, 1, 0, 0);
+    quotes_of(576460752303423488, 1, 1, 0);
+    quotes_of(576460752303423488, 1, 2, 0);
+    quotes_of(576460752303423488, 1, 3, 0);
+    quotes_of(576460752303423488, 256, 0, 0);
+    quotes_of(576460752303423488, 256, 1, 128);
+    quotes_of(576460752303423488, 256, 3, 255);
+    quotes_of(576460752303423489, 1, 0, 0);
+    quotes_of(1, 1, 4, 0);
+}
+
 pub fn all() {
     counts();
     first_terms();
@@ -169,4 +191,5 @@ pub fn all() {
     tickets();
     halves();
     refusals();
+    quotes();
 }

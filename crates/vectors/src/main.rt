@@ -21,6 +21,10 @@ fn ticket(p: u64, c: u64, row: u64, block: u64) {
     show::ticket(Series::Bellard, p, c, row, block);
 }
 
+fn quotes_of(p: u64, c: u64, row: u64, block: u64) {
+    show::quotes(Series::Bellard, p, c, row, block);
+}
+
 fn halves_of(p: u64, c: u64, row: u64, block: u64) {
     show::halves(Series::Bellard, p, c, row, block);
 }
@@ -321,6 +325,46 @@ fn refused_halves() {
     halves_of(1, 1, 7, 0);
 }
 
+// Quotes: where few terms have an E of 128 or more, and about E - 64 = 2^40.
+fn quotes() {
+    quotes_of(1, 1, 0, 0);
+    quotes_of(1, 1, 2, 0);
+    quotes_of(1, 1, 3, 0);
+    quotes_of(1, 256, 0, 0);
+    quotes_of(1, 256, 2, 18);
+    quotes_of(2, 3, 2, 0);
+    quotes_of(17, 1, 0, 0);
+    quotes_of(17, 1, 3, 0);
+    quotes_of(1000, 7, 4, 3);
+    quotes_of(12345, 256, 6, 255);
+    quotes_of(274877906928, 1, 3, 0);
+    quotes_of(274877906929, 1, 3, 0);
+    quotes_of(274877906929, 256, 3, 0);
+    quotes_of(0, 1, 0, 0);
+    quotes_of(1152921504606846977, 1, 0, 0);
+    quotes_of(1, 257, 7, 0);
+    quotes_of(1, 1, 7, 0);
+    quotes_of(1, 1, 0, 1);
+}
+
+// Quotes at the last position, where a row takes more squarings than a word holds.
+fn far_quotes() {
+    quotes_of(1152921504606846976, 1, 0, 0);
+    quotes_of(1152921504606846976, 1, 1, 0);
+    quotes_of(1152921504606846976, 1, 2, 0);
+    quotes_of(1152921504606846976, 1, 3, 0);
+    quotes_of(1152921504606846976, 1, 4, 0);
+    quotes_of(1152921504606846976, 1, 5, 0);
+    quotes_of(1152921504606846976, 1, 6, 0);
+    quotes_of(1152921504606846976, 2, 0, 1);
+    quotes_of(1152921504606846976, 3, 2, 1);
+    quotes_of(1152921504606846976, 255, 4, 127);
+    quotes_of(1152921504606846976, 256, 2, 0);
+    quotes_of(1152921504606846976, 256, 3, 191);
+    quotes_of(1152921504606846976, 256, 6, 255);
+    quotes_of(1152921504606846975, 1, 2, 0);
+}
+
 fn main() {
     figures();
     counts();
@@ -338,5 +382,7 @@ fn main() {
     refusals();
     halves();
     refused_halves();
+    quotes();
+    far_quotes();
     checks::all();
 }

@@ -86,7 +86,9 @@ fn size_of(f: Series, p: u64, row: u64, k: u64) {
     }
     let numbers = series::terms::numbers_of(f, p, row);
     sign(series::terms::is_added(numbers, k));
-    wide(series::terms::size(numbers, k));
+    let term = series::terms::size(numbers, k);
+    wide(term.value);
+    number(term.squarings);
 }
 
 fn quotient_of(e: u64, n: u64) {
@@ -97,14 +99,28 @@ fn quotient_of(e: u64, n: u64) {
         return;
     }
     if n < 0x8000_0000_0000_0000 {
-        wide(montgomery::quotient_of_power(e, n));
+        let q = montgomery::quotient_of_power(e, n);
+        wide(q.value);
+        number(q.squarings);
     }
 }
 
 fn sum_of(f: Series, part: Part, p: u64, c: u64, row: u64, block: u64) {
     let mut sum = [0u8; 16];
-    match ticket::work(f, part, p, c, row, block, &mut sum) {
-        Answer::Finished(_) => bytes(&sum),
+    let mut squarings = [0u8; 16];
+    match ticket::work(f, part, p, c, row, block, &mut sum, &mut squarings) {
+        Answer::Finished(_) => {
+            bytes(&sum);
+            bytes(&squarings);
+        }
+        Answer::Refused(r) => refusal(r),
+    }
+}
+
+fn squarings_of(f: Series, part: Part, p: u64, c: u64, row: u64, block: u64) {
+    let mut squarings = [0u8; 16];
+    match ticket::quote(f, part, p, c, row, block, &mut squarings) {
+        Answer::Finished(_) => bytes(&squarings),
         Answer::Refused(r) => refusal(r),
     }
 }
@@ -127,7 +143,7 @@ pub fn block(f: Series, p: u64, c: u64, i: u64) {
     text(b"\n");
 }
 
-// The sign and the size of term k.
+// The sign and the size of term k, and its squarings.
 pub fn term(f: Series, p: u64, row: u64, k: u64) {
     kind(f, b"term");
     number(p);
@@ -137,7 +153,7 @@ pub fn term(f: Series, p: u64, row: u64, k: u64) {
     text(b"\n");
 }
 
-// The whole part of 2^e / n, modulo 2^128.
+// The whole part of 2^e / n, modulo 2^128, and the squarings that it took.
 pub fn quotient(e: u64, n: u64) {
     text(b"quotient");
     number(e);
@@ -156,7 +172,7 @@ fn part(f: Series, name: &[u8], part: Part, p: u64, c: u64, row: u64, block: u64
     text(b"\n");
 }
 
-// The 16 bytes of a ticket's sum, or the refusal.
+// The 16 bytes of a ticket's sum and of its squarings, or the refusal.
 pub fn ticket(f: Series, p: u64, c: u64, row: u64, block: u64) {
     part(f, b"ticket", Part::Whole, p, c, row, block);
 }
@@ -165,4 +181,21 @@ pub fn ticket(f: Series, p: u64, c: u64, row: u64, block: u64) {
 pub fn halves(f: Series, p: u64, c: u64, row: u64, block: u64) {
     part(f, b"lower", Part::Lower, p, c, row, block);
     part(f, b"upper", Part::Upper, p, c, row, block);
+}
+
+fn quote_part(f: Series, name: &[u8], part: Part, p: u64, c: u64, row: u64, block: u64) {
+    kind(f, name);
+    number(p);
+    number(c);
+    number(row);
+    number(block);
+    squarings_of(f, part, p, c, row, block);
+    text(b"\n");
+}
+
+// The 16 bytes of the squarings that a ticket and its halves take, without working them.
+pub fn quotes(f: Series, p: u64, c: u64, row: u64, block: u64) {
+    quote_part(f, b"quote", Part::Whole, p, c, row, block);
+    quote_part(f, b"quote-lower", Part::Lower, p, c, row, block);
+    quote_part(f, b"quote-upper", Part::Upper, p, c, row, block);
 }

@@ -64,6 +64,9 @@ size-requires c κs =
 wide-requires : tie.Need-wide-requires
 wide-requires c κs = search needs
 
+number-requires : tie.Need-number-requires
+number-requires c κs = search needs
+
 returns-4 : tie.Need-returns-4
 returns-4 c = search needs
 
@@ -82,4 +85,5 @@ size-of-spec =
     sign-requires
     size-requires
     wide-requires
+    number-requires
     returns-4)
