@@ -83,6 +83,12 @@ pub fn is_added(numbers: Numbers, k: u64) -> bool
     }
 }
 
+// What a term gives whose E is below 0.
+const NOTHING: Quotient = Quotient {
+    value: Wide { hi: 0, lo: 0 },
+    squarings: 0,
+};
+
 // The size of term k, and the squarings that it takes: none where E is below 128. Where E is below 0 the size is 0.
 pub fn size(numbers: Numbers, k: u64) -> Quotient
     requires { ⌜ Workable numbers (k + 1) ⌝ }
@@ -90,10 +96,7 @@ pub fn size(numbers: Numbers, k: u64) -> Quotient
 {
     let fall = numbers.step * k;
     if numbers.rise < fall {
-        return Quotient {
-            value: Wide { hi: 0, lo: 0 },
-            squarings: 0,
-        };
+        return NOTHING;
     }
     let e = numbers.rise - fall;
     let n = numbers.m * k + numbers.j;
