@@ -32,7 +32,7 @@ PROCESSES =
 
 # The calls of the engine: those that Bellard's runs and check runs have alike, and those of Bellard's runs alone. test_CALL
 # tests one, and test_check_CALL the one of check runs.
-CALLS = work work_lower work_upper open post sheet_write sheet_read sheet_post close
+CALLS = work work_lower work_upper quote quote_lower quote_upper open post sheet_write sheet_read sheet_post close
 BELLARD_CALLS = look
 SYMBOLS = $(CALLS:%=bbp_%) $(BELLARD_CALLS:%=bbp_%) $(CALLS:%=bbp_check_%)
 
@@ -57,8 +57,8 @@ OF_A_KIND = $(CALLS) refusals tickets halves list
 TESTS = $(OF_A_KIND) $(BELLARD_CALLS) $(OF_A_KIND:%=check_%) kinds
 
 # What a test is linked with: of its kind, and of both.
-SUPPORT = common sheets postings vectors working
-REFERENCE = reference reference_close
+SUPPORT = common sheets postings vectors working quoting
+REFERENCE = reference reference_close reference_quote
 HEADERS = $(wildcard include/*.h tests/*.h examples/*.h bench/*.h)
 
 # The stand-in keeps the number of the way in which it is wrong, and has no closing program.

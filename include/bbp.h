@@ -11,9 +11,12 @@
  * ledger with every ticket posted is closed: that gives the hexadecimal digits
  * of pi from position p on that the run settles.
  *
- * There are two kinds of runs, with nineteen calls: ten for Bellard's runs and
- * nine for check runs, which do the same over another formula. bbp_look is for
- * Bellard's runs alone.
+ * Work is charged by squarings: working a ticket or a half hands back how many
+ * it made, and a quote gives the same number beforehand, at once.
+ *
+ * There are two kinds of runs, with twenty-five calls: thirteen for Bellard's
+ * runs and twelve for check runs, which do the same over another formula.
+ * bbp_look is for Bellard's runs alone.
  *
  *                                  Bellard's run   check run
  *   calls and constants            bbp_, BBP_      bbp_check_, BBP_CHECK_
@@ -44,6 +47,11 @@
  * docs/FORMATS.md, installed as share/doc/bbp/FORMATS.md, gives the bytes of a
  * ledger, a list and a sheet, the arithmetic, and each call's refusals in order.
  *
+ * Callers have to be built again with this header: since version 4.0.0 the six
+ * working calls have two arguments more. An object built with an older header
+ * still links with this library, but passes two arguments too few, and what
+ * such a call then does is undefined.
+ *
  * Answers. Every call answers an int64_t. A refusal is a number of the
  * refusal table, negated; of all numbers whose condition holds the smallest
  * is answered, and a refused call changes no byte of any slice. A call that
@@ -51,9 +59,9 @@
  * comment names.
  *
  * Slices. A byte slice is a pointer and then its length in bytes; it needs no
- * alignment. The slices of one call must not overlap. An empty slice (length
- * 0) may have a null pointer. A length is never more than the bytes that
- * stand at the pointer.
+ * alignment. The slices of one call must not overlap, neither those that it
+ * reads nor those that it writes. An empty slice (length 0) may have a null
+ * pointer. A length is never more than the bytes that stand at the pointer.
  *
  * Numbers inside slices are unsigned and little-endian. The calls keep no
  * state, allocate nothing and can be called from several threads at once, as
@@ -70,8 +78,8 @@ extern "C" {
 #endif
 
 /* The version. BBP_VERSION grows from each version to the next, so that #if can compare it. */
-#define BBP_VERSION_MAJOR 3
-#define BBP_VERSION_MINOR 1
+#define BBP_VERSION_MAJOR 4
+#define BBP_VERSION_MINOR 0
 #define BBP_VERSION_PATCH 0
 #define BBP_VERSION (1000000 * BBP_VERSION_MAJOR + 1000 * BBP_VERSION_MINOR + BBP_VERSION_PATCH)
 #define BBP_VERSION_STRING \
@@ -90,6 +98,7 @@ extern "C" {
 
 /* Sizes of slices, in bytes. */
 #define BBP_SUM_SIZE 16           /* the sum of a ticket or of a half, exactly */
+#define BBP_SQUARINGS_SIZE 16     /* the squarings of a ticket or of a half, exactly */
 #define BBP_DIGITS_SIZE 32        /* the digits' slice of a closing, exactly */
 #define BBP_TOTAL_SIZE 16         /* the total of a look, exactly */
 #define BBP_LEDGER_SIZE 352       /* a ledger, exactly: 16, and 48 for each row */
@@ -117,11 +126,11 @@ extern "C" {
  * compares -answer with these.
  */
 enum bbp_refusal {
-    /* A slice of the wrong size: a ledger not of BBP_LEDGER_SIZE bytes, a sum or a total not of 16,
-       digits not of 32; a list to be worked of odd length or over BBP_LIST_MAX; a sheet to read, post or
-       look at under 16 or over BBP_SHEET_MAX; a sheet to write under 16 + 20e; read outputs under 2e or
-       16e, where e is the count in the sheet's head. Here and below, a check call goes by the BBP_CHECK_
-       constants. */
+    /* A slice of the wrong size: a ledger not of BBP_LEDGER_SIZE bytes, a sum, squarings or a total not
+       of 16, digits not of 32; a list to be worked of odd length or over BBP_LIST_MAX; a sheet to read,
+       post or look at under 16 or over BBP_SHEET_MAX; a sheet to write under 16 + 20e; read outputs under
+       2e or 16e, where e is the count in the sheet's head. Here and below, a check call goes by the
+       BBP_CHECK_ constants. */
     BBP_REFUSED_SIZE = 1,
     /* The position or the block count, of the call or in the sheet's head, is out of range. */
     BBP_REFUSED_RANGE = 2,
@@ -145,12 +154,23 @@ enum bbp_refusal {
 
 /*
  * Works the ticket (p, c, row, block): writes its sum, the signed sum of its
- * terms modulo 2^128, into the 16 bytes of `sum`. An empty block has sum 0.
- * Answers 0, or refusal 1 (sum_len not 16), 2 or 4.
- * The time grows with the number of terms.
+ * terms modulo 2^128, into the 16 bytes of `sum`, and the number of squarings
+ * that this took into the 16 bytes of `squarings`. An empty block has sum 0 and
+ * takes none. Answers 0, or refusal 1 (sum_len or squarings_len not 16), 2 or 4;
+ * refused, it writes neither. `sum` and `squarings` must not overlap, as no two
+ * slices of a call may.
+ * The time grows with the squarings.
+ *
+ * A term with exponent E of 128 or more takes one squaring less than E - 64 has
+ * bits: 6 at E = 128, at most 62. Any other term takes none, E below 0 included.
+ * The squarings of a ticket are those of its terms added up: the number itself,
+ * not modulo anything, and at most 62 times the number of its terms. They can
+ * pass 64 bits. Sheets do not carry them.
  */
-int64_t bbp_work(uint64_t p, uint64_t c, uint64_t row, uint64_t block, uint8_t *sum, size_t sum_len);
-int64_t bbp_check_work(uint64_t p, uint64_t c, uint64_t row, uint64_t block, uint8_t *sum, size_t sum_len);
+int64_t bbp_work(uint64_t p, uint64_t c, uint64_t row, uint64_t block, uint8_t *sum, size_t sum_len,
+                 uint8_t *squarings, size_t squarings_len);
+int64_t bbp_check_work(uint64_t p, uint64_t c, uint64_t row, uint64_t block, uint8_t *sum, size_t sum_len,
+                       uint8_t *squarings, size_t squarings_len);
 
 /*
  * Work one half of the ticket (p, c, row, block), and are refused as bbp_work
@@ -158,24 +178,53 @@ int64_t bbp_check_work(uint64_t p, uint64_t c, uint64_t row, uint64_t block, uin
  * the cut is floor((first + end) / 2): the lower half has the terms before it,
  * the upper half the term at the cut and those after. A term has the sign that
  * it has in the ticket. Of a ticket with one term the lower half is empty, of
- * an empty ticket both are; an empty half has sum 0. Each call writes the sum
- * of its half, modulo 2^128, into the 16 bytes of `sum`. Answer 0, or refusal 1
- * (sum_len not 16), 2 or 4.
+ * an empty ticket both are; an empty half has sum 0 and takes no squarings. Each
+ * call writes the sum of its half, modulo 2^128, into the 16 bytes of `sum`, and
+ * the squarings of its half into the 16 bytes of `squarings`. Answer 0, or
+ * refusal 1 (sum_len or squarings_len not 16), 2 or 4.
  *
  * The two sums added modulo 2^128 are the ticket's: byte by byte from the
  * first, each with the carry of the one before, and the carry out of the last
- * byte is dropped. A half is not a ticket: the ledger has no mark for it, and
- * only the sum of the whole ticket can be posted.
+ * byte is dropped. The squarings of both are added in the same way and are the
+ * ticket's. A half is not a ticket: the ledger has no mark for it, and only the
+ * sum of the whole ticket can be posted.
  *
  * These calls go on cutting in two until they come to single terms. The stack
  * that they need grows with the logarithm of the number of terms, which
  * matters to a caller that starts threads with small stacks: it is greatest at
  * the largest position with c = 1, and stays below 12,000 bytes there.
  */
-int64_t bbp_work_lower(uint64_t p, uint64_t c, uint64_t row, uint64_t block, uint8_t *sum, size_t sum_len);
-int64_t bbp_check_work_lower(uint64_t p, uint64_t c, uint64_t row, uint64_t block, uint8_t *sum, size_t sum_len);
-int64_t bbp_work_upper(uint64_t p, uint64_t c, uint64_t row, uint64_t block, uint8_t *sum, size_t sum_len);
-int64_t bbp_check_work_upper(uint64_t p, uint64_t c, uint64_t row, uint64_t block, uint8_t *sum, size_t sum_len);
+int64_t bbp_work_lower(uint64_t p, uint64_t c, uint64_t row, uint64_t block, uint8_t *sum, size_t sum_len,
+                       uint8_t *squarings, size_t squarings_len);
+int64_t bbp_check_work_lower(uint64_t p, uint64_t c, uint64_t row, uint64_t block, uint8_t *sum, size_t sum_len,
+                             uint8_t *squarings, size_t squarings_len);
+int64_t bbp_work_upper(uint64_t p, uint64_t c, uint64_t row, uint64_t block, uint8_t *sum, size_t sum_len,
+                       uint8_t *squarings, size_t squarings_len);
+int64_t bbp_check_work_upper(uint64_t p, uint64_t c, uint64_t row, uint64_t block, uint8_t *sum, size_t sum_len,
+                             uint8_t *squarings, size_t squarings_len);
+
+/*
+ * Quote the ticket (p, c, row, block), or its lower or its upper half: write the
+ * squarings that working it takes, the same number that the working call hands
+ * back, into the 16 bytes of `squarings`, without working it. So the quotes of
+ * both halves, or of all blocks of a row, add up to that of the whole, and a
+ * quote is at most 62 times the number of terms. Answer 0, or refusal 1
+ * (squarings_len not 16), 2 or 4, as the working calls do.
+ *
+ * Neighbouring terms take the same number of squarings, and a quote counts them
+ * together: it takes microseconds at any position, also where no machine could
+ * work the ticket.
+ */
+int64_t bbp_quote(uint64_t p, uint64_t c, uint64_t row, uint64_t block, uint8_t *squarings, size_t squarings_len);
+int64_t bbp_check_quote(uint64_t p, uint64_t c, uint64_t row, uint64_t block, uint8_t *squarings, size_t squarings_len);
+int64_t bbp_quote_lower(uint64_t p, uint64_t c, uint64_t row, uint64_t block, uint8_t *squarings,
+                        size_t squarings_len);
+int64_t bbp_check_quote_lower(uint64_t p, uint64_t c, uint64_t row, uint64_t block, uint8_t *squarings,
+                              size_t squarings_len);
+int64_t bbp_quote_upper(uint64_t p, uint64_t c, uint64_t row, uint64_t block, uint8_t *squarings,
+                        size_t squarings_len);
+int64_t bbp_check_quote_upper(uint64_t p, uint64_t c, uint64_t row, uint64_t block, uint8_t *squarings,
+                              size_t squarings_len);
 
 /*
  * Opens the run (p, c): writes a fresh ledger, with no ticket marked and every

@@ -50,8 +50,8 @@ prints 0 "1000 29 $digits" "$scratch/acceptance" --halves 1000
 cat >"$scratch/version.c" <<'END'
 #include <bbp.h>
 #include <stdio.h>
-#if BBP_VERSION < 3001000
-#error "older than the look"
+#if BBP_VERSION < 4000000
+#error "older than the quotes"
 #endif
 int main(void) { printf("%s %ld\n", BBP_VERSION_STRING, (long)BBP_VERSION); return 0; }
 END
