@@ -23,6 +23,14 @@ compares two floor divisions for d = 32 down to 1, by whole numbers of any sign.
 has at least the digits that it has where every term is charged: both are worked
 and compared. The digits of pi that closings are compared with come from Machin's
 formula, not from either of these.
+
+The squarings of a ticket or a half (document 02, slip 7) are added up term by
+term where there are at most 10^5 terms. A term with E of 128 or more takes s where
+2^s is the greatest power of two in E - 64; so it takes 6, and one more for each
+power from 2^7 on that E - 64 reaches. Of any number of terms, the exponents are an
+arithmetic progression, and those that reach a power are one whose length Python
+tells: the squarings are 6 times the first such length and each of the others once.
+Where both ways are possible both are taken and compared.
 """
 import collections
 import functools
@@ -32,6 +40,7 @@ import sys
 M = 1 << 128
 WRITTEN_OUT = 10**6
 COUNTED = 10**6
+SQUARED = 10**5
 
 
 def bellard_terms(K):
@@ -103,6 +112,19 @@ def range_sum(f, p, row, first, end):
 
 def ticket(f, p, c, row, i):
     return range_sum(f, p, row, *block(f, p, c, i))
+
+
+def term_squarings(E):
+    return (E - 64).bit_length() - 1 if E >= 128 else 0
+
+
+def range_squarings(f, p, row, first, end):
+    exponents = range(numbers(f, p, row, first)[1], numbers(f, p, row, end)[1], -f.step)
+    reaching = [len(range(exponents.start, max(exponents.stop, 2**s + 63), -f.step)) for s in range(6, 63)]
+    squarings = 6 * reaching[0] + sum(reaching[1:])
+    assert len(exponents) > SQUARED or squarings == sum(map(term_squarings, exponents))
+    assert len(exponents) == end - first and squarings <= 62 * (end - first)
+    return squarings
 
 
 def last_charged(f, p, row):
@@ -202,6 +224,13 @@ def half_lines(f, p, c, row, i, kinds=("lower", "upper")):
     for kind, s in zip(kinds, sums):
         sum_line(f, kind, p, c, row, i, s)
     return sum(sums) % M
+
+
+def squarings_lines(f, p, c, row, i):
+    counts = [range_squarings(f, p, row, *terms) for terms in (block(f, p, c, i), *halves(f, p, c, i))]
+    assert counts[0] == counts[1] + counts[2]
+    for kind, count in zip(("squarings", "squarings-lower", "squarings-upper"), counts):
+        print("%s%s %d %d %d %d %d" % (f.prefix, kind, p, c, row, i, count))
 
 
 def closing_line(f, p, total):
@@ -325,30 +354,28 @@ def far_blocks(f):
 PLACES = ((0, 0), (1, 255), (2, 128), (3, 17), (4, 200), (5, 99), (6, 254))
 
 
-def tickets(f, places):
+def ticket_cases(f, places):
+    cases = [(1, 1, row, 0) for row in row_numbers(f)]
+    cases += [(1, 256, row, i) for row in row_numbers(f) for i in places]
+    cases += [(p, c, row, i) for p in (2, 3, 4, 17, 100) for row in row_numbers(f)
+              for c, i in ((1, 0), (3, 0), (3, 2), (255, 254), (256, 255))]
+    cases += [(p, c, row, i) for p in (1000, 12345) for row in row_numbers(f) for c, i in ((1, 0), (7, 3), (256, 255))]
+    return cases + [(10**5, 256, row, i) for row, i in PLACES[:len(f.rows)]]
+
+
+def tickets(f, cases):
     title(f, "Tickets: {}ticket p C row block sum-as-a-number sum-as-16-bytes")
-    for row in row_numbers(f):
-        ticket_line(f, 1, 1, row, 0)
-    for row in row_numbers(f):
-        for i in places:
-            ticket_line(f, 1, 256, row, i)
-    for p in (2, 3, 4, 17, 100):
-        for row in row_numbers(f):
-            for c, i in ((1, 0), (3, 0), (3, 2), (255, 254), (256, 255)):
-                ticket_line(f, p, c, row, i)
-    for p in (1000, 12345):
-        for row in row_numbers(f):
-            ticket_line(f, p, 1, row, 0)
-            ticket_line(f, p, 7, row, 3)
-            ticket_line(f, p, 256, row, 255)
-    for row, i in PLACES[:len(f.rows)]:
-        ticket_line(f, 10**5, 256, row, i)
+    for case in cases:
+        ticket_line(f, *case)
+
+
+FAR_TICKETS = ((22 * 10**8, 256, 2, 255), (2 * 10**9, 256, 1, 200), (2 * 10**9, 256, 6, 180))
 
 
 def far_tickets(f):
     title(f, "Tickets of some million terms, with N above 2^33, below 2^32, above 2^32: {}far p C row block sum bytes")
-    for p, row, i in ((22 * 10**8, 2, 255), (2 * 10**9, 1, 200), (2 * 10**9, 6, 180)):
-        ticket_line(f, p, 256, row, i, "far")
+    for case in FAR_TICKETS:
+        ticket_line(f, *case, "far")
 
 
 def half_blocks(f):
@@ -360,27 +387,48 @@ def half_blocks(f):
             range_line(f, kind, p, c, i, half)
 
 
-def half_tickets(f):
-    title(f, "Halves of tickets: {}lower or {}upper, p C row block sum-as-a-number sum-as-16-bytes")
+def half_cases(f):
     cases = [(1, c, row, i) for row in row_numbers(f)
              for c, i in ((1, 0), (3, 0), (3, 1), (3, 2), (7, 6), (256, 0), (256, f.one_term), (256, 255))]
     cases += [(p, c, row, i) for p in (2, 3, 4, 17, 100) for row in row_numbers(f)
               for c, i in ((1, 0), (3, 1), (7, 6), (256, 255))]
     cases += [(p, c, row, i) for p in (1000, 12345) for row in row_numbers(f) for c, i in ((1, 0), (7, 3))]
-    cases += [(10**5, 256, row, i) for row, i in PLACES[:len(f.rows)]]
-    for case in cases:
+    return cases + [(10**5, 256, row, i) for row, i in PLACES[:len(f.rows)]]
+
+
+def half_tickets(f):
+    title(f, "Halves of tickets: {}lower or {}upper, p C row block sum-as-a-number sum-as-16-bytes")
+    for case in half_cases(f):
         assert half_lines(f, *case) == ticket(f, *case)
+
+
+FAR_HALVES = (6 * 10**9, 256, 5, 255)
 
 
 def far_halves(f):
     title(f, "A ticket of some million terms, with first + end above 2^32: {}far-lower, {}far-upper")
-    half_lines(f, 6 * 10**9, 256, 5, 255, ("far-lower", "far-upper"))
+    half_lines(f, *FAR_HALVES, ("far-lower", "far-upper"))
+
+
+FAR_CHECK_TICKET = (7 * 10**8, 256, 2, 200)
 
 
 def far_ticket_and_halves(f):
     title(f, "A ticket of some million terms, with N above 2^32, and its halves: {}far, {}far-lower, {}far-upper")
-    case = (7 * 10**8, 256, 2, 200)
-    sum_line(f, "far", *case, half_lines(f, *case, ("far-lower", "far-upper")))
+    sum_line(f, "far", *FAR_CHECK_TICKET, half_lines(f, *FAR_CHECK_TICKET, ("far-lower", "far-upper")))
+
+
+# Those of all tickets and halves above, each once, then tickets that no machine can work.
+def squarings(f, cases):
+    title(f, "Squarings: {}squarings, {}squarings-lower or {}squarings-upper, p C row block number")
+    cases = list(dict.fromkeys(cases + half_cases(f)))
+    cases += [(f.last, 1, row, 0) for row in row_numbers(f)]
+    cases += [(f.last, c, row, i) for row in row_numbers(f)
+              for c, i in ((256, 0), (256, f.wrapping), (256, 255), (255, 128), (3, 1), (3, 2))]
+    cases += [(p, c, row, i) for p in (f.last - 1, f.last // 2, f.last // 2 + 1, 10**17, 10**9, 10**6) for row in row_numbers(f)
+              for c, i in ((1, 0), (256, 255), (7, 3))]
+    for case in cases:
+        squarings_lines(f, *case)
 
 
 # Totals on both sides of the edges, and of the edges that there would be with every term charged.
@@ -431,11 +479,13 @@ def bellard_runs():
     corner_terms(f, (-10, -3, -2, -1, 0, 1, 2, 63, 64, 65, 126, 127, 128, 129, 130, 191, 192, 193))
     far_terms(f)
     far_blocks(f)
-    tickets(f, (0, 18, 36, 37, 54, 128, 237, 255))
+    cases = ticket_cases(f, (0, 18, 36, 37, 54, 128, 237, 255))
+    tickets(f, cases)
     far_tickets(f)
     half_blocks(f)
     half_tickets(f)
     far_halves(f)
+    squarings(f, cases + [*FAR_TICKETS, FAR_HALVES])
     closings(f)
     worked_runs(f, 30, 529)
 
@@ -446,10 +496,12 @@ def check_runs():
     corner_terms(f, (-1, 0, 2, 3, 4, 62, 63, 64, 66, 67, 124, 126, 127, 128, 130, 131, 190, 191, 192, 194, 195))
     far_terms(f)
     far_blocks(f)
-    tickets(f, (0, 6, 7, 15, 54, 128, 248, 255))
+    cases = ticket_cases(f, (0, 6, 7, 15, 54, 128, 248, 255))
+    tickets(f, cases)
     half_blocks(f)
     half_tickets(f)
     far_ticket_and_halves(f)
+    squarings(f, cases + [FAR_CHECK_TICKET])
     closings(f)
     worked_runs(f, 29, 117)
 
