@@ -43,7 +43,7 @@ size_t wrong_ledger_size(void);
  * After the call, `expect` compares the bytes and the guards; `expect_kept`
  * compares them with what was lent.
  */
-enum { SLOTS = 3 };
+enum { SLOTS = 6 };
 uint8_t *lend(int slot, const uint8_t *bytes, size_t len);
 const uint8_t *lend_input(int slot, const uint8_t *bytes, size_t len);
 void expect(int slot, const uint8_t *bytes, const char *what);
@@ -64,8 +64,10 @@ int still_working(void (*call)(void));
 /* Whether a call, made in a child process, comes back; a check that fails there ends the child. */
 int comes_back(void (*call)(void));
 
-/* A call that works a ticket or a half of one. */
-typedef int64_t work_call(uint64_t p, uint64_t c, uint64_t row, uint64_t block, uint8_t *sum, size_t sum_len);
+/* A call that works a ticket or a half of one, and one that quotes it. */
+typedef int64_t work_call(uint64_t p, uint64_t c, uint64_t row, uint64_t block, uint8_t *sum, size_t sum_len,
+                          uint8_t *squarings, size_t squarings_len);
+typedef int64_t quote_call(uint64_t p, uint64_t c, uint64_t row, uint64_t block, uint8_t *squarings, size_t squarings_len);
 
 /* A copy on the heap, for the reference; freed by the caller. */
 uint8_t *copy_of(const uint8_t *bytes, size_t len);

@@ -35,7 +35,7 @@ ref_u128 ref_load_sum(const uint8_t *at)
     return (ref_u128)ref_load(at + 8, 8) << 64 | ref_load(at, 8);
 }
 
-static void store_sum(uint8_t *at, ref_u128 sum)
+void ref_store_sum(uint8_t *at, ref_u128 sum)
 {
     store(at, 8, (uint64_t)sum);
     store(at + 8, 8, (uint64_t)(sum >> 64));
@@ -125,36 +125,44 @@ ref_u128 ref_term_size(ref_formula *f, uint64_t p, uint64_t row, uint64_t k)
     return shifted_quotient(power_of_two_mod((uint64_t)exponent - 128, divisor), divisor);
 }
 
-/* The terms from `first` up to, not including, `end`. */
-static ref_u128 range_sum(ref_formula *f, uint64_t p, uint64_t row, uint64_t first, uint64_t end)
+ref_range ref_whole(ref_formula *f, uint64_t p, uint64_t c, uint64_t block)
+{
+    return (ref_range){ref_block_first(f, p, c, block), ref_block_first(f, p, c, block + 1)};
+}
+
+ref_range ref_lower_half(ref_formula *f, uint64_t p, uint64_t c, uint64_t block)
+{
+    return (ref_range){ref_block_first(f, p, c, block), ref_block_cut(f, p, c, block)};
+}
+
+ref_range ref_upper_half(ref_formula *f, uint64_t p, uint64_t c, uint64_t block)
+{
+    return (ref_range){ref_block_cut(f, p, c, block), ref_block_first(f, p, c, block + 1)};
+}
+
+static ref_u128 range_sum(ref_formula *f, uint64_t p, uint64_t row, ref_range terms)
 {
     ref_u128 sum = 0;
-    for (uint64_t k = first; k < end; k++) {
+    for (uint64_t k = terms.first; k < terms.end; k++) {
         ref_u128 size = ref_term_size(f, p, row, k);
         sum += ref_term_added(f, row, k) ? size : -size;
     }
     return sum;
 }
 
-static ref_u128 ticket_sum(ref_formula *f, uint64_t p, uint64_t c, uint64_t row, uint64_t block)
+static ref_u128 counted_squarings(ref_formula *f, uint64_t p, uint64_t row, ref_range terms)
 {
-    return range_sum(f, p, row, ref_block_first(f, p, c, block), ref_block_first(f, p, c, block + 1));
+    ref_u128 squarings = 0;
+    for (uint64_t k = terms.first; k < terms.end; k++)
+        squarings += ref_term_squarings(f, p, row, k);
+    return squarings;
 }
 
-static ref_u128 lower_sum(ref_formula *f, uint64_t p, uint64_t c, uint64_t row, uint64_t block)
-{
-    return range_sum(f, p, row, ref_block_first(f, p, c, block), ref_block_cut(f, p, c, block));
-}
-
-static ref_u128 upper_sum(ref_formula *f, uint64_t p, uint64_t c, uint64_t row, uint64_t block)
-{
-    return range_sum(f, p, row, ref_block_cut(f, p, c, block), ref_block_first(f, p, c, block + 1));
-}
-
-ref_refusals ref_work_refusals(ref_formula *f, uint64_t p, uint64_t c, uint64_t row, uint64_t block, size_t sum_len)
+ref_refusals ref_work_refusals(ref_formula *f, uint64_t p, uint64_t c, uint64_t row, uint64_t block, size_t sum_len,
+                               size_t squarings_len)
 {
     ref_refusals refusals = 0;
-    if (sum_len != 16)
+    if (sum_len != 16 || squarings_len != 16)
         refusals |= SIZE;
     if (!run_in_range(f, p, c))
         refusals |= RANGE;
@@ -163,29 +171,22 @@ ref_refusals ref_work_refusals(ref_formula *f, uint64_t p, uint64_t c, uint64_t 
     return refusals;
 }
 
-static int64_t work(ref_u128 (*sum_of)(ref_formula *f, uint64_t p, uint64_t c, uint64_t row, uint64_t block), ref_formula *f,
-                    uint64_t p, uint64_t c, uint64_t row, uint64_t block, uint8_t *sum, size_t sum_len)
-{
-    ref_refusals refusals = ref_work_refusals(f, p, c, row, block, sum_len);
-    if (refusals == 0)
-        store_sum(sum, sum_of(f, p, c, row, block));
-    return ref_answer(refusals);
-}
+/* A call that works the terms which `terms_of` gives. */
+#define WORKING(name, terms_of) \
+    int64_t name(ref_formula *f, uint64_t p, uint64_t c, uint64_t row, uint64_t block, uint8_t *sum, size_t sum_len, \
+                 uint8_t *squarings, size_t squarings_len) \
+    { \
+        ref_refusals refusals = ref_work_refusals(f, p, c, row, block, sum_len, squarings_len); \
+        if (refusals == 0) { \
+            ref_store_sum(sum, range_sum(f, p, row, terms_of(f, p, c, block))); \
+            ref_store_sum(squarings, counted_squarings(f, p, row, terms_of(f, p, c, block))); \
+        } \
+        return ref_answer(refusals); \
+    }
 
-int64_t ref_work(ref_formula *f, uint64_t p, uint64_t c, uint64_t row, uint64_t block, uint8_t *sum, size_t sum_len)
-{
-    return work(ticket_sum, f, p, c, row, block, sum, sum_len);
-}
-
-int64_t ref_work_lower(ref_formula *f, uint64_t p, uint64_t c, uint64_t row, uint64_t block, uint8_t *sum, size_t sum_len)
-{
-    return work(lower_sum, f, p, c, row, block, sum, sum_len);
-}
-
-int64_t ref_work_upper(ref_formula *f, uint64_t p, uint64_t c, uint64_t row, uint64_t block, uint8_t *sum, size_t sum_len)
-{
-    return work(upper_sum, f, p, c, row, block, sum, sum_len);
-}
+WORKING(ref_work, ref_whole)
+WORKING(ref_work_lower, ref_lower_half)
+WORKING(ref_work_upper, ref_upper_half)
 
 /* The ledger: p at 0, C at 8, zero bytes at 10, the row sums at 16, and the marks after them. */
 
@@ -215,7 +216,7 @@ int ref_marked(ref_formula *f, const uint8_t *ledger, uint64_t row, uint64_t blo
 static void post_sum(ref_formula *f, uint8_t *ledger, uint64_t row, uint64_t block, const uint8_t *sum)
 {
     ledger[mark_at(f, row, block)] |= (uint8_t)(1 << block % 8);
-    store_sum(ledger + 16 + 16 * row, ref_row_sum(ledger, row) + ref_load_sum(sum));
+    ref_store_sum(ledger + 16 + 16 * row, ref_row_sum(ledger, row) + ref_load_sum(sum));
 }
 
 int ref_ledger_in_order(ref_formula *f, const uint8_t *ledger)
@@ -351,7 +352,7 @@ int64_t ref_sheet_write(ref_formula *f, uint64_t p, uint64_t c, const uint8_t *l
         uint64_t row = pair_at(list, i) / 256, block = pair_at(list, i) % 256;
         store(sheet + 16 + 4 * i, 1, row);
         store(sheet + 16 + 4 * i + 2, 2, block);
-        store_sum(sheet + 16 + 4 * e + 16 * i, ticket_sum(f, p, c, row, block));
+        ref_store_sum(sheet + 16 + 4 * e + 16 * i, range_sum(f, p, row, ref_whole(f, p, c, block)));
     }
     return (int64_t)(16 + 20 * e);
 }
@@ -470,6 +471,6 @@ int64_t ref_look(ref_formula *f, const uint8_t *ledger, size_t ledger_len, const
         return ref_answer(refusals);
     memcpy(copy, ledger, f->ledger);
     ref_sheet_post(f, copy, f->ledger, sheet, sheet_len);
-    store_sum(total, ref_total(f, copy));
+    ref_store_sum(total, ref_total(f, copy));
     return unmarked_tickets(f, copy);
 }

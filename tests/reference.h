@@ -1,9 +1,10 @@
 /*
- * An implementation of the nine calls of each kind of runs, and of the look of
- * Bellard's runs, written from document 01 and slips 1, 3, 4, 5 and 6 of
+ * An implementation of the twelve calls of each kind of runs, and of the look of
+ * Bellard's runs, written from document 01 and slips 1, 3, 4, 5, 6 and 7 of
  * document 02 alone, for comparison. It prefers the obvious to the fast:
  * remainders by `%` on 128 bits, every condition of the refusal table evaluated
- * by itself, terms added from first to last, a look by posting onto a copy.
+ * by itself, terms added from first to last, a look by posting onto a copy, the
+ * squarings of a quote by looking for the terms at which they change.
  */
 #ifndef REFERENCE_H
 #define REFERENCE_H
@@ -28,8 +29,11 @@ extern ref_formula ref_bellard, ref_check;
 
 /* The arguments and answers of the calls of bbp.h, with the formula before them. */
 typedef int64_t ref_work_call(ref_formula *f, uint64_t p, uint64_t c, uint64_t row, uint64_t block, uint8_t *sum,
-                              size_t sum_len);
+                              size_t sum_len, uint8_t *squarings, size_t squarings_len);
 ref_work_call ref_work, ref_work_lower, ref_work_upper;
+typedef int64_t ref_quote_call(ref_formula *f, uint64_t p, uint64_t c, uint64_t row, uint64_t block, uint8_t *squarings,
+                               size_t squarings_len);
+ref_quote_call ref_quote, ref_quote_lower, ref_quote_upper;
 int64_t ref_open(ref_formula *f, uint64_t p, uint64_t c, uint8_t *ledger, size_t ledger_len);
 int64_t ref_post(ref_formula *f, uint8_t *ledger, size_t ledger_len, uint64_t p, uint64_t c, uint64_t row, uint64_t block,
                  const uint8_t *sum, size_t sum_len);
@@ -48,8 +52,11 @@ int64_t ref_close(ref_formula *f, const uint8_t *ledger, size_t ledger_len, uint
  * smaller number applies then.
  */
 typedef unsigned ref_refusals;
-/* The working calls, of a ticket and of its halves, are refused alike. */
-ref_refusals ref_work_refusals(ref_formula *f, uint64_t p, uint64_t c, uint64_t row, uint64_t block, size_t sum_len);
+/* The working calls, of a ticket and of its halves, are refused alike, and so are the quotes. */
+ref_refusals ref_work_refusals(ref_formula *f, uint64_t p, uint64_t c, uint64_t row, uint64_t block, size_t sum_len,
+                               size_t squarings_len);
+ref_refusals ref_quote_refusals(ref_formula *f, uint64_t p, uint64_t c, uint64_t row, uint64_t block,
+                                size_t squarings_len);
 ref_refusals ref_open_refusals(ref_formula *f, uint64_t p, uint64_t c, size_t ledger_len);
 ref_refusals ref_post_refusals(ref_formula *f, const uint8_t *ledger, size_t ledger_len, uint64_t p, uint64_t c,
                                uint64_t row, uint64_t block, size_t sum_len);
@@ -71,6 +78,7 @@ uint64_t ref_term_divisor(ref_formula *f, uint64_t row, uint64_t k);
 int64_t ref_term_exponent(ref_formula *f, uint64_t p, uint64_t row, uint64_t k);
 int ref_term_added(ref_formula *f, uint64_t row, uint64_t k);
 ref_u128 ref_term_size(ref_formula *f, uint64_t p, uint64_t row, uint64_t k);
+uint64_t ref_term_squarings(ref_formula *f, uint64_t p, uint64_t row, uint64_t k);
 
 /*
  * The number of a run's charged terms, those with E of 0 or more, that are
@@ -78,9 +86,19 @@ ref_u128 ref_term_size(ref_formula *f, uint64_t p, uint64_t row, uint64_t k);
  */
 uint64_t ref_charged_terms(ref_formula *f, uint64_t p, int added);
 
-/* Little-endian numbers, and the ledger, for the closing's own file. */
+/* The terms of a ticket or of a half, from `first` up to, not including, `end`. */
+typedef struct ref_range {
+    uint64_t first, end;
+} ref_range;
+typedef ref_range ref_terms_of(ref_formula *f, uint64_t p, uint64_t c, uint64_t block);
+ref_terms_of ref_whole, ref_lower_half, ref_upper_half;
+/* The squarings of these terms, which may be too many to be counted one by one. */
+ref_u128 ref_range_squarings(ref_formula *f, uint64_t p, uint64_t row, ref_range terms);
+
+/* Little-endian numbers, and the ledger, for the files of the quotes and of the closing. */
 uint64_t ref_load(const uint8_t *at, size_t bytes);
 ref_u128 ref_load_sum(const uint8_t *at);
+void ref_store_sum(uint8_t *at, ref_u128 sum);
 int64_t ref_answer(ref_refusals refusals);
 int ref_ledger_in_order(ref_formula *f, const uint8_t *ledger);
 int ref_marked(ref_formula *f, const uint8_t *ledger, uint64_t row, uint64_t block);

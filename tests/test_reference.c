@@ -1,6 +1,7 @@
 /*
- * The reference against vectors.txt: terms, counts, blocks, tickets and halves;
- * and its a and b against a count term by term. No engine is linked.
+ * The reference against vectors.txt: terms, counts, blocks, tickets, halves and
+ * quotes; its a and b, and the squarings of its quotes, against a count term by
+ * term. No engine is linked.
  */
 #include "vectors.h"
 
@@ -67,16 +68,62 @@ static void compare_charges(uint64_t p)
               "E of term K of p %" PRIu64 " row %" PRIu64, p, row);
 }
 
-/* The reference's call by the formula that is tried. */
+/* The squarings of a range are those of its terms, counted one by one. */
+static void compare_range_squarings(uint64_t p, uint64_t row, uint64_t first, uint64_t end)
+{
+    ref_u128 squarings = 0;
+    for (uint64_t k = first; k < end; k++)
+        squarings += ref_term_squarings(FORMULA, p, row, k);
+    CHECK(ref_range_squarings(FORMULA, p, row, (ref_range){first, end}) == squarings,
+          "squarings of p %" PRIu64 " row %" PRIu64 ": terms %" PRIu64 " to %" PRIu64, p, row, first, end);
+}
+
+/* Ranges anywhere in a row; every range of the first positions. */
+static void compare_ranges(void)
+{
+    for (uint64_t p = 1; p <= 20; p++)
+        for (uint64_t row = 0; row < ROWS; row++)
+            for (uint64_t first = 0; first <= ref_term_count(FORMULA, p); first++)
+                for (uint64_t end = first; end <= ref_term_count(FORMULA, p); end++)
+                    compare_range_squarings(p, row, first, end);
+    for (int i = 0; i < 3000; i++) {
+        uint64_t p = any_position(), terms = ref_term_count(FORMULA, p), first = below(terms), left = terms - first;
+        compare_range_squarings(p, below(ROWS), first, first + below(left < 2000 ? left + 1 : 2000));
+    }
+}
+
+/* The terms whose squarings the paper's sentence gives at a glance. */
+static void squarings_at_edges(void)
+{
+    CHECK(ref_term_squarings(FORMULA, LAST_POSITION, OF_KIND(2, 0), 0) == OF_KIND(62, 61), "the first term at the last p");
+    for (uint64_t p = 1; p <= 100; p++)
+        for (uint64_t row = 0; row < ROWS; row++)
+            for (uint64_t k = 0; k < ref_term_count(FORMULA, p); k++) {
+                int64_t e = ref_term_exponent(FORMULA, p, row, k);
+                CHECK(ref_term_squarings(FORMULA, p, row, k) == (e < 128 ? 0 : e < 192 ? 6 : e < 320 ? 7 : e < 576 ? 8 : 9),
+                      "squarings of E = %" PRId64, e);
+            }
+}
+
+/* The reference's calls by the formula that is tried. */
 #define WORKING(name) \
-    static int64_t name(uint64_t p, uint64_t c, uint64_t row, uint64_t block, uint8_t *sum, size_t sum_len) \
+    static int64_t name(uint64_t p, uint64_t c, uint64_t row, uint64_t block, uint8_t *sum, size_t sum_len, \
+                        uint8_t *squarings, size_t squarings_len) \
     { \
-        return ref_##name(FORMULA, p, c, row, block, sum, sum_len); \
+        return ref_##name(FORMULA, p, c, row, block, sum, sum_len, squarings, squarings_len); \
+    }
+#define QUOTING(name) \
+    static int64_t name(uint64_t p, uint64_t c, uint64_t row, uint64_t block, uint8_t *squarings, size_t squarings_len) \
+    { \
+        return ref_##name(FORMULA, p, c, row, block, squarings, squarings_len); \
     }
 
 WORKING(work)
 WORKING(work_lower)
 WORKING(work_upper)
+QUOTING(quote)
+QUOTING(quote_lower)
+QUOTING(quote_upper)
 
 int main(int argc, char **argv)
 {
@@ -86,9 +133,14 @@ int main(int argc, char **argv)
     CHECK(each_block("block", compare_block) > 20, "vectors.txt has too few blocks");
     CHECK(each_block("lower-half", compare_lower_half) > 10, "vectors.txt has too few lower halves");
     CHECK(each_block("upper-half", compare_upper_half) > 10, "vectors.txt has too few upper halves");
-    compare_sums("ticket", work, 100);
-    compare_sums("lower", work_lower, 100);
-    compare_sums("upper", work_upper, 100);
+    compare_sums("ticket", "squarings", work, 100);
+    compare_sums("lower", "squarings-lower", work_lower, 100);
+    compare_sums("upper", "squarings-upper", work_upper, 100);
+    compare_squarings("squarings", quote, 100);
+    compare_squarings("squarings-lower", quote_lower, 100);
+    compare_squarings("squarings-upper", quote_upper, 100);
+    squarings_at_edges();
+    compare_ranges();
     for (uint64_t p = 1; p <= 3000; p++)
         compare_charges(p);
     compare_charges(1000000);

@@ -36,8 +36,12 @@ int each_closing(void (*use)(const struct closing_vector *));
 /*
  * Compares what the call gives with the sums of all lines of the kind, of which
  * there are more than `least`: "ticket", "lower", "upper"; and "far",
- * "far-lower", "far-upper", of some million terms, too many for the reference in a test.
+ * "far-lower", "far-upper", of some million terms, too many for the reference in
+ * a test. Each has a line with its squarings, of the other kind.
  */
-void compare_sums(const char *kind, work_call *call, int least);
+void compare_sums(const char *kind, const char *squarings_kind, work_call *call, int least);
+
+/* Compares what the call quotes with all lines of the kind: "squarings", "squarings-lower" or "squarings-upper". */
+void compare_squarings(const char *kind, quote_call *call, int least);
 
 #endif
