@@ -51,10 +51,10 @@ static const char *published_digits(uint64_t p)
 /* The closing of a run in this process; gives the number of digits. */
 static size_t close_run(const struct kind *kind, uint64_t p, char digits[33])
 {
-    uint8_t ledger[BBP_LEDGER_SIZE], sum[BBP_SUM_SIZE], lent[BBP_DIGITS_SIZE] = {0};
+    uint8_t ledger[BBP_LEDGER_SIZE], sum[BBP_SUM_SIZE], squarings[BBP_SQUARINGS_SIZE], lent[BBP_DIGITS_SIZE] = {0};
     int64_t answer = kind->open(p, 1, ledger, kind->ledger_size);
     for (uint64_t row = 0; row < kind->rows && answer == 0; row++) {
-        answer = kind->work(p, 1, row, 0, sum, sizeof sum);
+        answer = kind->work(p, 1, row, 0, sum, sizeof sum, squarings, sizeof squarings);
         if (answer == 0)
             answer = kind->post(ledger, kind->ledger_size, p, 1, row, 0, sum, sizeof sum);
     }

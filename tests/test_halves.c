@@ -1,6 +1,7 @@
 /*
  * The halves of a ticket beside the whole ticket, in the engine's own calls
- * (document 02, slip 3): answers, sums, the place of the cut, and the stack.
+ * (document 02, slips 3 and 7): answers, sums, squarings, quotes, the place of
+ * the cut, and the stack.
  */
 #include "working.h"
 
@@ -37,41 +38,65 @@ static void require_kinds(void)
     CHECK(seen.odd_cut > 0 && seen.even_cut > 0, "%" PRIu64 " odd cuts, %" PRIu64 " even", seen.odd_cut, seen.even_cut);
 }
 
-static int64_t call_with(work_call *call, int slot, const uint8_t *found, const uint8_t **sum)
+/* The whole ticket, its lower and its upper half. */
+enum { WHOLE, LOWER, UPPER, PARTS };
+
+/* Of each part the sum is in a slot, and the squarings are PARTS slots on. */
+static int64_t call_with(work_call *call, int part, const uint8_t *found, const uint8_t **sums, const uint8_t **squarings)
 {
-    uint8_t *at = lend(slot, found, tried.sum_len);
-    *sum = at;
-    return call(tried.p, tried.c, tried.row, tried.block, at, tried.sum_len);
+    uint8_t *sum = lend(part, found, tried.len[0]), *count = lend(PARTS + part, found, tried.len[1]);
+    sums[part] = sum;
+    squarings[part] = count;
+    return call(tried.p, tried.c, tried.row, tried.block, sum, tried.len[0], count, tried.len[1]);
 }
 
-/* The three calls answer alike. Refused, they change nothing; else the sums of the halves add up to the ticket's. */
+static void add_up(const uint8_t *const numbers[PARTS], const char *what)
+{
+    CHECK((ref_u128)(ref_load_sum(numbers[LOWER]) + ref_load_sum(numbers[UPPER])) == ref_load_sum(numbers[WHOLE]),
+          "p %" PRIu64 " C %" PRIu64 " row %" PRIu64 " block %" PRIu64 ": the %s of the halves do not add up to the ticket's",
+          tried.p, tried.c, tried.row, tried.block, what);
+}
+
+/* The three calls answer alike. Refused, they change nothing; else the halves' sums and squarings add up to the ticket's. */
 static int64_t compare_with_whole(void)
 {
     uint8_t found[96];
-    const uint8_t *whole, *lower, *upper;
+    const uint8_t *sums[PARTS], *squarings[PARTS];
     any_bytes(found, sizeof found);
-    int64_t answer = call_with(CALL(work), 0, found, &whole);
-    int64_t of_lower = call_with(CALL(work_lower), 1, found, &lower);
-    int64_t of_upper = call_with(CALL(work_upper), 2, found, &upper);
+    int64_t answer = call_with(CALL(work), WHOLE, found, sums, squarings);
+    int64_t of_lower = call_with(CALL(work_lower), LOWER, found, sums, squarings);
+    int64_t of_upper = call_with(CALL(work_upper), UPPER, found, sums, squarings);
     CHECK(of_lower == answer && of_upper == answer,
-          "p %" PRIu64 " C %" PRIu64 " row %" PRIu64 " block %" PRIu64 " length %zu: answers %" PRId64 ", %" PRId64
-          " of the lower half, %" PRId64 " of the upper", tried.p, tried.c, tried.row, tried.block, tried.sum_len, answer,
-          of_lower, of_upper);
-    for (int slot = 0; slot < 3 && answer != 0; slot++)
-        expect_kept(slot, "a refused call, the sum");
+          "p %" PRIu64 " C %" PRIu64 " row %" PRIu64 " block %" PRIu64 " lengths %zu, %zu: answers %" PRId64 ", %" PRId64
+          " of the lower half, %" PRId64 " of the upper", tried.p, tried.c, tried.row, tried.block, tried.len[0], tried.len[1],
+          answer, of_lower, of_upper);
+    for (int slot = 0; slot < 2 * PARTS && answer != 0; slot++)
+        expect_kept(slot, "a refused call, what was lent");
     if (answer != 0)
         return answer;
-    CHECK((ref_u128)(ref_load_sum(lower) + ref_load_sum(upper)) == ref_load_sum(whole),
-          "p %" PRIu64 " C %" PRIu64 " row %" PRIu64 " block %" PRIu64 ": the halves do not add up to the ticket", tried.p,
-          tried.c, tried.row, tried.block);
+    add_up(sums, "sums");
+    add_up(squarings, "squarings");
     count_kind();
     return answer;
 }
 
+/* The quotes of the halves add up to the ticket's, at any position. */
+static void compare_quotes(void)
+{
+    uint8_t quotes[PARTS][16];
+    const uint8_t *const all[PARTS] = {quotes[WHOLE], quotes[LOWER], quotes[UPPER]};
+    uint64_t c = any_blocks();
+    tried = (struct arguments){any_position(), c, below(ROWS), below(c), {16, 16}};
+    CHECK(CALL(quote)(tried.p, tried.c, tried.row, tried.block, quotes[WHOLE], 16) == 0, "a quote is refused");
+    CHECK(CALL(quote_lower)(tried.p, tried.c, tried.row, tried.block, quotes[LOWER], 16) == 0, "a lower half's is refused");
+    CHECK(CALL(quote_upper)(tried.p, tried.c, tried.row, tried.block, quotes[UPPER], 16) == 0, "an upper half's is refused");
+    add_up(all, "quotes");
+}
+
 static ref_u128 sum_by(work_call *call, uint64_t p, uint64_t c, uint64_t row, uint64_t block)
 {
-    uint8_t sum[16];
-    CHECK(call(p, c, row, block, sum, 16) == 0, "p %" PRIu64 " C %" PRIu64 " is refused", p, c);
+    uint8_t sum[16], squarings[16];
+    CHECK(call(p, c, row, block, sum, 16, squarings, 16) == 0, "p %" PRIu64 " C %" PRIu64 " is refused", p, c);
     return ref_load_sum(sum);
 }
 
@@ -120,12 +145,12 @@ static void on_small_stack(void *(*call)(void *))
         _exit(2);
 }
 
-static uint8_t far_sums[2][16];
+static uint8_t far_sums[2][16], far_squarings[2][16];
 
 static void *work_far_halves(void *unused)
 {
-    CALL(work_lower)(FAR, 1, 3, 0, far_sums[0], 16);
-    CALL(work_upper)(FAR, 1, 3, 0, far_sums[1], 16);
+    CALL(work_lower)(FAR, 1, 3, 0, far_sums[0], 16, far_squarings[0], 16);
+    CALL(work_upper)(FAR, 1, 3, 0, far_sums[1], 16, far_squarings[1], 16);
     return unused;
 }
 
@@ -135,17 +160,20 @@ static void far_halves(void)
     on_small_stack(work_far_halves);
     CHECK((ref_u128)(ref_load_sum(far_sums[0]) + ref_load_sum(far_sums[1])) == sum_by(CALL(work), FAR, 1, 3, 0),
           "the halves at p = %d do not add up to the ticket", FAR);
+    CHECK(ref_load_sum(far_squarings[0]) + ref_load_sum(far_squarings[1]) ==
+              ref_range_squarings(FORMULA, FAR, 3, ref_whole(FORMULA, FAR, 1, 0)),
+          "the squarings of the halves at p = %d", FAR);
 }
 
 static void *work_last_lower(void *unused)
 {
-    CALL(work_lower)(LAST_POSITION, 1, 0, 0, far_sums[0], 16);
+    CALL(work_lower)(LAST_POSITION, 1, 0, 0, far_sums[0], 16, far_squarings[0], 16);
     return unused;
 }
 
 static void *work_last_upper(void *unused)
 {
-    CALL(work_upper)(LAST_POSITION, 1, 0, 0, far_sums[1], 16);
+    CALL(work_upper)(LAST_POSITION, 1, 0, 0, far_sums[1], 16, far_squarings[1], 16);
     return unused;
 }
 
@@ -163,9 +191,11 @@ static void last_upper(void)
 int main(int argc, char **argv)
 {
     start("halves", argc, argv);
-    try_tickets(compare_with_whole);
+    try_tickets(TO_WORK, compare_with_whole);
     require_kinds();
     small_halves();
+    for (uint64_t i = 0; i < case_count(); i++)
+        compare_quotes();
     CHECK(comes_back(far_halves), "the halves at p = %d, C = 1 on a stack of %d bytes", FAR, STACK);
     CHECK(still_working(last_lower), "the lower half at the last p, C = 1 on a stack of %d bytes", STACK);
     CHECK(still_working(last_upper), "the upper half at the last p, C = 1 on a stack of %d bytes", STACK);

@@ -87,10 +87,10 @@ static void sheet_is_taken(const struct kind *from, const struct kind *by, uint6
 
 static void sum_is_taken(const struct kind *from, const struct kind *by)
 {
-    uint8_t sum[16];
+    uint8_t sum[16], squarings[16];
     open_ledger(by, 1, 1);
     for (uint64_t row = 0; row < SHARED_ROWS; row++) {
-        CHECK(from->work(1, 1, row, 0, sum, 16) == 0, "row %" PRIu64 " is not worked", row);
+        CHECK(from->work(1, 1, row, 0, sum, 16, squarings, 16) == 0, "row %" PRIu64 " is not worked", row);
         CHECK(by->post(ledger, by->ledger_len, 1, 1, row, 0, sum, 16) == 0, "%s sum is not posted", from->name);
         CHECK(memcmp(ledger + SUM_AT(row), sum, 16) == 0, "%s sum in the ledger", from->name);
     }

@@ -3,8 +3,8 @@
  * that it fits, and what slips 1, 4 and 5 of document 02 turn away: ledgers of
  * 256 bytes or of the other kind's size, what is past the kind's last row or
  * position, and totals at the edges of p = 1. The look of slip 6, which check
- * runs have not, is put to all that posting a sheet is. The answers stand here;
- * no reference is asked.
+ * runs have not, is put to all that posting a sheet is, the quotes of slip 7 to
+ * all that working is. The answers stand here; no reference is asked.
  */
 #include "common.h"
 
@@ -35,9 +35,16 @@ static size_t put_sheet(uint8_t *sheet, const struct example *x)
 
 static int64_t call_working(work_call *call, const struct example *x)
 {
-    uint8_t sum[16];
-    any_bytes(sum, 16);
-    return call(x->p, x->c, x->pairs[0] / 256, x->pairs[0] % 256, lend(0, sum, 16), 16);
+    uint8_t found[16];
+    any_bytes(found, 16);
+    return call(x->p, x->c, x->pairs[0] / 256, x->pairs[0] % 256, lend(0, found, 16), 16, lend(1, found, 16), 16);
+}
+
+static int64_t call_quoting(quote_call *call, const struct example *x)
+{
+    uint8_t found[16];
+    any_bytes(found, 16);
+    return call(x->p, x->c, x->pairs[0] / 256, x->pairs[0] % 256, lend(0, found, 16), 16);
 }
 
 static int64_t call_work(const struct example *x)
@@ -53,6 +60,21 @@ static int64_t call_work_lower(const struct example *x)
 static int64_t call_work_upper(const struct example *x)
 {
     return call_working(CALL(work_upper), x);
+}
+
+static int64_t call_quote(const struct example *x)
+{
+    return call_quoting(CALL(quote), x);
+}
+
+static int64_t call_quote_lower(const struct example *x)
+{
+    return call_quoting(CALL(quote_lower), x);
+}
+
+static int64_t call_quote_upper(const struct example *x)
+{
+    return call_quoting(CALL(quote_upper), x);
 }
 
 static int64_t call_open(const struct example *x)
@@ -113,13 +135,14 @@ static int64_t call_close(const struct example *x)
     return CALL(close)(lend_input(0, ledger, x->ledger.len), x->ledger.len, lend(1, digits, 32), 32);
 }
 
-/* Each call has its bit, by its place. A call that marked tickets refuse has the one that marks them. */
+/* Each call has its bit, by its place; WORK has those of working and quoting. A call that marked tickets refuse has the one that marks them. */
 static const struct call {
     const char *name;
     int64_t (*make)(const struct example *x);
     int64_t (*mark)(const struct example *x);
 } calls[] = {
     {"work", call_work, NULL}, {"work_lower", call_work_lower, NULL}, {"work_upper", call_work_upper, NULL},
+    {"quote", call_quote, NULL}, {"quote_lower", call_quote_lower, NULL}, {"quote_upper", call_quote_upper, NULL},
     {"open", call_open, NULL}, {"post", call_post, call_post}, {"sheet_write", call_write, NULL},
     {"sheet_read", call_read, NULL}, {"sheet_post", call_sheet_post, call_sheet_post}, {"close", call_close, NULL},
 #ifndef CHECK_RUN
@@ -127,7 +150,7 @@ static const struct call {
 #endif
 };
 enum {
-    WORK = 7, OPEN = 8, POST = 16, WRITE = 32, READ = 64, SHEET_POST = 128, CLOSE = 256, LOOK = 512,
+    WORK = 63, OPEN = 64, POST = 128, WRITE = 256, READ = 512, SHEET_POST = 1024, CLOSE = 2048, LOOK = 4096,
     POSTS = POST | SHEET_POST | LOOK, SHEETS = WRITE | READ | SHEET_POST | LOOK, TICKET = WORK | POST | SHEETS
 };
 
