@@ -1,7 +1,8 @@
 /*
- * A stand-in for the engine, in C: the nine calls of both kinds of runs and the
- * look of Bellard's runs, by Montgomery arithmetic and early returns, and a look
- * without a copy of the ledger. It shares no code with the reference.
+ * A stand-in for the engine, in C: the twelve calls of both kinds of runs and the
+ * look of Bellard's runs, by Montgomery arithmetic and early returns, a look
+ * without a copy of the ledger, and quotes by quotients. It shares no code with
+ * the reference.
  * It is right unless the environment variable MUTANT names a number; then it is
  * wrong in the one way that WRONG(number) marks. tests/mutants/run.sh shows that
  * the tests pass on the right one and fail on each wrong one.
@@ -153,14 +154,15 @@ static uint64_t doubled(uint64_t x, uint64_t bit, uint64_t n, doubling wrong)
     return less + wrapped * (shifted - less);
 }
 
-/* 2^e mod n for e of 128 or more. */
-static uint64_t residue(uint64_t e, uint64_t n, uint64_t mu)
+/* 2^e mod n for e of 128 or more, and the squarings made. */
+static uint64_t residue(uint64_t e, uint64_t n, uint64_t mu, uint64_t *squarings)
 {
     const doubling wrong = {WRONG(95), WRONG(96), WRONG(97)};
-    uint64_t x = WRONG(14) ? 2 % n : (uint64_t)(((u128)2 << 64) % n);
+    uint64_t x = WRONG(14) ? 2 % n : (uint64_t)(((u128)2 << 64) % n), made = 0;
     e -= 64;
-    for (int i = 62 - __builtin_clzll(e); i >= 0; i--)
+    for (int i = 62 - __builtin_clzll(e); i >= 0; i--, made++)
         x = doubled(montgomery_square(x, n, mu), e >> i >> wrong.place & 1, n, wrong);
+    *squarings = made;
     return x;
 }
 
@@ -179,18 +181,41 @@ static int64_t exponent(const formula *f, uint64_t p, uint64_t row, uint64_t k)
     return 4 * (int64_t)(p - 1) + f->row[row].l - (int64_t)(f->step * k) + 128;
 }
 
-static u128 term(const formula *f, uint64_t p, uint64_t row, uint64_t k)
+/* What was worked: a sum modulo 2^128, and the squarings made for it. */
+typedef struct {
+    u128 sum, squarings;
+} worked;
+
+/* The squarings of a term, and those of wrong engines: the number of bits after the first of E - 64. */
+static uint64_t squarings_of(int64_t e, uint64_t made)
 {
+    uint64_t bits = (uint64_t)(e - (WRONG(223) ? 0 : 64));
+    if (e < 128)
+        return WRONG(222) && e == 127 ? 5 : WRONG(224) && e >= 0 ? 1 : 0;
+    if (WRONG(227) && e == 128)
+        return 0;
+    if (WRONG(225))
+        made += (uint64_t)__builtin_popcountll(bits) - 1;
+    if (WRONG(223))
+        made = 63 - (uint64_t)__builtin_clzll(bits);
+    return made + WRONG(221);
+}
+
+/* The size of term k as a sum, and its squarings. */
+static worked term(const formula *f, uint64_t p, uint64_t row, uint64_t k)
+{
+    uint64_t made = 0;
     uint64_t n = f->row[row].m * k + f->row[row].j;
     if (WRONG(61) || WRONG(164))
         n &= ((uint64_t)1 << (WRONG(61) ? 33 : 32)) - 1;
     int64_t e = exponent(f, p + WRONG(7), row, k) - (WRONG_IN_CHECK(128) ? 6 * (int64_t)k : 0);
     if (e < (WRONG(33) ? 8 : 0))
-        return 0;
+        return (worked){0, squarings_of(e, 0)};
     if (e < (WRONG(34) ? 127 : 128))
-        return ((u128)1 << e) / n;
+        return (worked){((u128)1 << e) / n, squarings_of(e, 0)};
     uint64_t mu = inverse(n);
-    return exact_quotient(residue((uint64_t)e, n, mu), n, mu);
+    u128 q = exact_quotient(residue((uint64_t)e, n, mu, &made), n, mu);
+    return (worked){q, squarings_of(e, made)};
 }
 
 static uint64_t terms_of(const formula *f, uint64_t p)
@@ -226,21 +251,36 @@ static range ticket_range(const formula *f, uint64_t p, uint64_t c, uint64_t row
     return terms;
 }
 
-static u128 signed_term(const range *terms, uint64_t k)
+static worked signed_term(const range *terms, uint64_t k)
 {
     const formula *f = terms->f;
-    u128 q = term(f, terms->p, terms->row, k);
+    worked size = term(f, terms->p, terms->row, k);
     uint64_t odd = WRONG(8) ? 0 : (k - terms->origin) & f->alternates;
-    return odd != f->row[terms->row].subtracted ? -q : q;
+    if (odd != f->row[terms->row].subtracted)
+        size.sum = -size.sum;
+    return size;
 }
 
-static u128 ticket(const formula *f, uint64_t p, uint64_t c, uint64_t row, uint64_t block)
+/* The squarings of two parts, and what wrong engines take for it. */
+static u128 both(u128 lower, u128 upper)
+{
+    if (WRONG(228))
+        return upper;
+    if (WRONG(229))
+        return lower > upper ? lower : upper;
+    return WRONG(230) ? (uint16_t)(lower + upper) : lower + upper;
+}
+
+static worked ticket(const formula *f, uint64_t p, uint64_t c, uint64_t row, uint64_t block)
 {
     const range terms = ticket_range(f, p, c, row, block);
-    u128 sum = 0;
-    for (uint64_t k = terms.first; k < terms.end; k++)
-        sum += signed_term(&terms, k);
-    return sum;
+    worked all = {0, 0};
+    for (uint64_t k = terms.first; k < terms.end; k++) {
+        worked one = signed_term(&terms, k);
+        all.sum += one.sum;
+        all.squarings = both(all.squarings, one.squarings);
+    }
+    return all;
 }
 
 /* x + y modulo 2^128, in an engine that has no carry between the words, or that stops at 2^128 - 1. */
@@ -251,20 +291,20 @@ static u128 plus(u128 x, u128 y, int no_carry, int stops)
     return stops && x + y < x ? ~(u128)0 : x + y;
 }
 
-/* The sum of a range that so many cuts, one inside the other, have left. */
-static u128 by_halves(range terms, int cuts)
+/* A range that so many cuts, one inside the other, have left. */
+static worked by_halves(range terms, int cuts)
 {
     uint64_t count = terms.end - terms.first;
     if (terms.first >= terms.end || (WRONG(117) && cuts > 20))
-        return 0;
+        return (worked){0, 0};
     if (count == 1 || (WRONG(109) && count == 2))
         return signed_term(&terms, terms.first);
     range lower = terms, upper = terms;
     lower.end = upper.first = WRONG(111) ? terms.end - 1 : terms.first + count / 2;
     if (WRONG(110) && count % 2 == 1)
         upper.first++;
-    u128 sum = by_halves(lower, cuts + 1);
-    return plus(sum, by_halves(upper, cuts + 1), WRONG(107), WRONG(108));
+    worked first = by_halves(lower, cuts + 1), second = by_halves(upper, cuts + 1);
+    return (worked){plus(first.sum, second.sum, WRONG(107), WRONG(108)), both(first.squarings, second.squarings)};
 }
 
 static void store_sum(uint8_t *at, u128 sum)
@@ -278,26 +318,73 @@ static u128 load_sum(const uint8_t *at)
     return (u128)load(at + 8, 8) << 64 | load(at, 8);
 }
 
-/* The refusals of the working calls. The sum is lent for the wrong engine that writes it all the same. */
-static int64_t bad_ticket(const formula *f, uint64_t p, uint64_t c, uint64_t row, uint64_t block, uint8_t *sum,
-                          size_t sum_len)
+/* The slices that are lent to work. */
+typedef struct {
+    uint8_t *sum;
+    size_t sum_len;
+    uint8_t *squarings;
+    size_t squarings_len;
+} outputs;
+
+static void store_squarings(uint8_t *at, u128 squarings)
 {
-    if (length(sum_len) != 16 || unaligned(52, sum))
+    if (WRONG(241))
+        squarings += load_sum(at);
+    if (WRONG(240))
+        store(at, 8, (uint64_t)squarings);
+    else
+        store_sum(at, squarings);
+    for (int i = 0; i < 16 && WRONG(239); i++)
+        at[i] = (uint8_t)(squarings >> 8 * (15 - i));
+    if (WRONG(242))
+        at[16] = 0;
+}
+
+static int bad_squarings_size(const uint8_t *squarings, size_t squarings_len)
+{
+    size_t len = output_length(243, squarings_len);
+    return (WRONG(233) ? len < 16 : len != 16) || unaligned(244, squarings);
+}
+
+/* Refusals 2 and 4 of a ticket. */
+static int64_t bad_place(const formula *f, uint64_t p, uint64_t c, uint64_t row, uint64_t block)
+{
+    return bad_run(f, p, c) ? -2 : bad_row(f, row) || block >= c ? -4 : 0;
+}
+
+/* The refusals of the working calls. The slices are lent for the wrong engines that write them all the same. */
+static int64_t bad_ticket(const formula *f, uint64_t p, uint64_t c, uint64_t row, uint64_t block, const outputs *to)
+{
+    int64_t bad = bad_place(f, p, c, row, block);
+    if (length(to->sum_len) != 16 || unaligned(52, to->sum))
         return -1;
-    int64_t bad = bad_run(f, p, c) ? -2 : bad_row(f, row) || block >= c ? -4 : 0;
+    if (bad_squarings_size(to->squarings, to->squarings_len) && !(WRONG(234) && bad != 0)) {
+        if (WRONG(235))
+            store_sum(to->sum, 0);
+        return WRONG(236) ? -4 : -1;
+    }
     if ((WRONG(41) && bad == -4) || (WRONG_IN_CHECK(152) && bad == -2))
-        store_sum(sum, 0);
+        store_sum(to->sum, 0);
+    if ((WRONG(231) && bad == -4) || (WRONG(232) && bad == -2))
+        store_sum(to->squarings, 0);
     return bad;
 }
 
-static int64_t work(const formula *f, uint64_t p, uint64_t c, uint64_t row, uint64_t block, uint8_t *sum, size_t sum_len)
+/* Writes what was worked; gives the answer. */
+static int64_t store_worked(const outputs *to, worked all)
+{
+    store_sum(to->sum, all.sum);
+    if (!WRONG(237))
+        store_squarings(to->squarings, all.squarings);
+    return WRONG(238) ? (int64_t)all.squarings : 0;
+}
+
+static int64_t work(const formula *f, uint64_t p, uint64_t c, uint64_t row, uint64_t block, outputs to)
 {
     if (WRONG(15))
         row &= 255, block &= 65535;
-    int64_t bad = bad_ticket(f, p, c, row, block, sum, sum_len);
-    if (bad == 0)
-        store_sum(sum, ticket(f, p, c, row, block));
-    return bad;
+    int64_t bad = bad_ticket(f, p, c, row, block, &to);
+    return bad != 0 ? bad : store_worked(&to, ticket(f, p, c, row, block));
 }
 
 /* Where a ticket is cut, and where wrong engines cut it. */
@@ -344,10 +431,9 @@ static int wants_terms(const formula *f, uint64_t p, uint64_t c, uint64_t row, u
     return (WRONG(105) && terms.first == terms.end) || (WRONG(106) && terms.end - terms.first == 1);
 }
 
-static int64_t bad_half(const formula *f, uint64_t p, uint64_t c, uint64_t row, uint64_t block, uint8_t *sum,
-                        size_t sum_len)
+static int64_t bad_half(const formula *f, uint64_t p, uint64_t c, uint64_t row, uint64_t block, const outputs *to)
 {
-    int64_t bad = bad_ticket(f, p, c, row, block, sum, sum_len);
+    int64_t bad = bad_ticket(f, p, c, row, block, to);
     if (WRONG(113) && bad == -2 && (bad_row(f, row) || block >= c))
         return -4;
     if (WRONG(114) && bad == -1 && bad_run(f, p, c))
@@ -355,30 +441,162 @@ static int64_t bad_half(const formula *f, uint64_t p, uint64_t c, uint64_t row, 
     return bad == 0 && wants_terms(f, p, c, row, block) ? -4 : bad;
 }
 
-static int64_t work_half(const formula *f, uint64_t p, uint64_t c, uint64_t row, uint64_t block, uint8_t *sum,
-                         size_t sum_len, int upper)
+static int64_t work_half(const formula *f, uint64_t p, uint64_t c, uint64_t row, uint64_t block, outputs to, int upper)
 {
     if (WRONG(15))
         row &= 255, block &= 65535;
-    int64_t bad = bad_half(f, p, c, row, block, sum, sum_len);
+    int64_t bad = bad_half(f, p, c, row, block, &to);
     if (bad != 0)
         return bad;
     const range terms = half_range(f, p, c, row, block, upper);
-    if (!(WRONG(115) && terms.first == terms.end))
-        store_sum(sum, by_halves(terms, 0));
-    return WRONG(116) ? (int64_t)(terms.end - terms.first) : 0;
+    if (WRONG(115) && terms.first == terms.end)
+        return 0;
+    worked half = by_halves(terms, 0);
+    if (WRONG(245))
+        half.squarings = ticket(f, p, c, row, block).squarings;
+    int64_t answer = store_worked(&to, half);
+    return WRONG(116) ? (int64_t)(terms.end - terms.first) : answer;
 }
 
-static int64_t work_lower(const formula *f, uint64_t p, uint64_t c, uint64_t row, uint64_t block, uint8_t *sum,
-                          size_t sum_len)
+static int64_t work_lower(const formula *f, uint64_t p, uint64_t c, uint64_t row, uint64_t block, outputs to)
 {
-    return work_half(f, p, c, row, block, sum, sum_len, 0);
+    return work_half(f, p, c, row, block, to, 0);
 }
 
-static int64_t work_upper(const formula *f, uint64_t p, uint64_t c, uint64_t row, uint64_t block, uint8_t *sum,
-                          size_t sum_len)
+static int64_t work_upper(const formula *f, uint64_t p, uint64_t c, uint64_t row, uint64_t block, outputs to)
 {
-    return work_half(f, p, c, row, block, sum, sum_len, 1);
+    return work_half(f, p, c, row, block, to, 1);
+}
+
+/* Quoting. */
+
+/* E of term 0. */
+static u128 first_exponent(const range *terms)
+{
+    const formula *f = terms->f;
+    int64_t l = WRONG(258) ? 0 : f->row[terms->row].l;
+    return (u128)(4 * (terms->p - !WRONG(259)) + (uint64_t)(128 + l));
+}
+
+/* The number of a row's terms with E of `least` or more: they are its first ones. */
+static u128 terms_from(const range *terms, u128 least)
+{
+    const formula *f = terms->f;
+    u128 e = first_exponent(terms), step = WRONG_IN_CHECK(257) ? bellard.step : f->step;
+    if (e < least)
+        return WRONG(252) ? (uint64_t)(e - least) / step + 1 : 0;
+    return (e - least) / step + (WRONG(251) ? 2 : WRONG(250) ? 0 : 1);
+}
+
+/* The least E of the terms that take so many squarings. */
+static u128 least_exponent(uint64_t squarings)
+{
+    u128 least = ((u128)1 << squarings) + (WRONG(223) ? 0 : 64);
+    if (squarings == 6 && WRONG(227))
+        return 129;
+    return WRONG(222) && squarings == 5 ? 127 : WRONG(223) && squarings == 7 ? 128 : least;
+}
+
+/* The terms of the range that come before term k. */
+static u128 before(const range *terms, u128 k)
+{
+    return k < terms->first ? 0 : (k < terms->end ? k : terms->end) - terms->first;
+}
+
+/* The squarings term by term: of many terms that takes too long. */
+static u128 counted(const range *terms)
+{
+    u128 squarings = 0;
+    for (uint64_t k = terms->first; k < terms->end; k++) {
+        int64_t e = exponent(terms->f, terms->p, terms->row, k);
+        squarings += e < 128 ? 0 : 63 - (unsigned)__builtin_clzll((uint64_t)e - 64);
+    }
+    return squarings;
+}
+
+/* The terms that take 62 squarings, then those that take 61, and so on: each are neighbours in the row. */
+static u128 quoted(range terms)
+{
+    u128 squarings = 0, done = 0;
+    uint64_t least = WRONG(247) ? 7 : WRONG(222) ? 5 : WRONG(223) ? 7 : 6, most = WRONG(249) ? 31 : 62;
+    if (WRONG(260))
+        terms.end -= terms.first, terms.first = 0;
+    if (WRONG(253) || WRONG(254))
+        return WRONG(253) ? (u128)62 * (terms.end - terms.first) : counted(&terms);
+    for (uint64_t s = most; s >= least; s--) {
+        u128 end = before(&terms, terms_from(&terms, least_exponent(s))), count = end - done;
+        if (WRONG(248) && done == 0)
+            count = 0;
+        if (WRONG(246))
+            count = (uint32_t)count;
+        squarings += count * (s + WRONG(221));
+        done = end;
+    }
+    return WRONG(255) ? (uint64_t)squarings : squarings;
+}
+
+static int64_t bad_quote(const formula *f, uint64_t p, uint64_t c, uint64_t row, uint64_t block, uint8_t *squarings,
+                         size_t squarings_len)
+{
+    formula taken = *f;
+    taken.last = WRONG_IN_CHECK(226) ? bellard.last : f->last;
+    int64_t bad = bad_place(&taken, p, c, row, block);
+    int bad_size = WRONG(261) ? squarings_len < 16 : bad_squarings_size(squarings, squarings_len);
+    if (bad_size && !(WRONG(262) && bad != 0))
+        return WRONG(263) ? -2 : -1;
+    if (WRONG(264) && bad == -2 && (bad_row(f, row) || block >= c))
+        return -4;
+    if (WRONG(265) && bad != 0)
+        store_sum(squarings, 0);
+    return bad;
+}
+
+static int64_t quote_range(const range *terms, uint8_t *squarings)
+{
+    u128 count = quoted(*terms);
+    if (WRONG(256) && terms->first == terms->end)
+        return -4;
+    if (!(WRONG(266) && terms->first == terms->end))
+        store_squarings(squarings, count);
+    return WRONG(267) ? (int64_t)(uint64_t)count : 0;
+}
+
+static int64_t quote(const formula *f, uint64_t p, uint64_t c, uint64_t row, uint64_t block, uint8_t *squarings,
+                     size_t squarings_len)
+{
+    if (WRONG(15))
+        row &= 255, block &= 65535;
+    int64_t bad = bad_quote(f, p, c, row, block, squarings, squarings_len);
+    if (bad != 0)
+        return bad;
+    const range terms = ticket_range(f, p, c, row, block);
+    return quote_range(&terms, squarings);
+}
+
+static int64_t quote_half(const formula *f, uint64_t p, uint64_t c, uint64_t row, uint64_t block, uint8_t *squarings,
+                          size_t squarings_len, int upper)
+{
+    if (WRONG(15))
+        row &= 255, block &= 65535;
+    int64_t bad = bad_quote(f, p, c, row, block, squarings, squarings_len);
+    if (bad != 0)
+        return bad;
+    if (WRONG(269) || WRONG(270))
+        upper = WRONG(269);
+    const range terms = WRONG(268) ? ticket_range(f, p, c, row, block) : half_range(f, p, c, row, block, upper);
+    return quote_range(&terms, squarings);
+}
+
+static int64_t quote_lower(const formula *f, uint64_t p, uint64_t c, uint64_t row, uint64_t block, uint8_t *squarings,
+                           size_t squarings_len)
+{
+    return quote_half(f, p, c, row, block, squarings, squarings_len, 0);
+}
+
+static int64_t quote_upper(const formula *f, uint64_t p, uint64_t c, uint64_t row, uint64_t block, uint8_t *squarings,
+                           size_t squarings_len)
+{
+    return quote_half(f, p, c, row, block, squarings, squarings_len, 1);
 }
 
 /* The ledger: 16 bytes of head, a sum of 16 bytes for each row, marks of 32 bytes for each row. */
@@ -497,7 +715,7 @@ static void fill_sums(const formula *f, uint8_t *ledger)
 {
     uint8_t sum[16];
     for (uint64_t row = 0; is_empty(f, ledger) && row < f->rows; row++) {
-        store_sum(sum, ticket(f, load(ledger, 8), 1, row, 0));
+        store_sum(sum, ticket(f, load(ledger, 8), 1, row, 0).sum);
         add(f, ledger, row, sum);
     }
 }
@@ -595,7 +813,7 @@ static void write_sheet(const formula *f, uint64_t p, uint64_t c, const uint8_t 
         sheet[16 + 4 * i] = row;
         sheet[18 + 4 * i] = block;
         if (!(WRONG(47) && p > 1000))
-            store_sum(sheet + 16 + 4 * e + 16 * i, ticket(f, p, c, row, block));
+            store_sum(sheet + 16 + 4 * e + 16 * i, ticket(f, p, c, row, block).sum);
     }
 }
 
@@ -788,7 +1006,7 @@ static uint64_t charged_in_row(const formula *f, uint64_t p, uint64_t row, int64
         least += f->row[row].l;
     if (WRONG(177))
         row = 0;
-    while (exponent(f, p + WRONG(178), row, terms - 1) < least || (WRONG(179) && term(f, p, row, terms - 1) == 0))
+    while (exponent(f, p + WRONG(178), row, terms - 1) < least || (WRONG(179) && term(f, p, row, terms - 1).sum == 0))
         terms--;
     return terms;
 }
@@ -983,13 +1201,21 @@ static int64_t look(const formula *f, const uint8_t *ledger, size_t ledger_len, 
     return answer;
 }
 
-/* The calls of bbp.h: nine for each kind of runs, and one for Bellard's runs alone. */
+/* The calls of bbp.h: twelve for each kind of runs, and one for Bellard's runs alone. */
 
 #define WORKING(prefix, call, by) \
-    int64_t prefix##call(uint64_t p, uint64_t c, uint64_t row, uint64_t block, uint8_t *sum, size_t sum_len) \
+    int64_t prefix##call(uint64_t p, uint64_t c, uint64_t row, uint64_t block, uint8_t *sum, size_t sum_len, \
+                         uint8_t *squarings, size_t squarings_len) \
     { \
         const formula f = by; \
-        return call(&f, p, c, row, block, sum, sum_len); \
+        return call(&f, p, c, row, block, (outputs){sum, sum_len, squarings, squarings_len}); \
+    }
+
+#define QUOTING(prefix, call, by) \
+    int64_t prefix##call(uint64_t p, uint64_t c, uint64_t row, uint64_t block, uint8_t *squarings, size_t squarings_len) \
+    { \
+        const formula f = by; \
+        return call(&f, p, c, row, block, squarings, squarings_len); \
     }
 
 #define LEDGERS(prefix, runs) \
@@ -1033,6 +1259,9 @@ static int64_t look(const formula *f, const uint8_t *ledger, size_t ledger_len, 
     WORKING(prefix, work, runs(143)) \
     WORKING(prefix, work_lower, runs(144)) \
     WORKING(prefix, work_upper, runs(145)) \
+    QUOTING(prefix, quote, runs(271)) \
+    QUOTING(prefix, quote_lower, runs(272)) \
+    QUOTING(prefix, quote_upper, runs(273)) \
     LEDGERS(prefix, runs) \
     SHEETS(prefix, runs)
 
