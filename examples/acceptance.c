@@ -19,6 +19,19 @@
  *
  * Check runs have no look; their sheets are posted without one.
  *
+ * Work is charged by squarings. Before the work the quote of the whole run is
+ * said on standard error, and before the closing what was made of it:
+ *
+ *     quote: 28243 squarings in 35 tickets
+ *     squarings: 22615 made, 22615 quoted in 28 tickets worked; 5628 quoted in 7 tickets of sheets
+ *
+ * Tickets that are worked one by one, whole or by halves, hand back what they
+ * made. Sheets do not carry it, so their tickets are named apart, with what they
+ * are quoted at; without sheets that part is left out. Where the tickets worked
+ * made another number than they were quoted at, the program says so and ends
+ * with status 1 before it closes; the ledger is then kept all the same. On a
+ * terminal a bar shows the part of the quoted squarings that is done.
+ *
  * With --check a check run with the same position and block count is worked and
  * closed after that run, and two more lines are printed. The first of them is
  * the check run's closing line with the word `check` before it; the second says
@@ -34,7 +47,8 @@
  * ledger is written to FILE.check, which is opened before the work as well. Where
  * a call is refused the program ends: the lines printed before stay, and a file
  * not written yet is empty. A call of the check run is named with the word
- * `check` before it.
+ * `check` before it, and so are its quote and its squarings. Both quotes come
+ * before any work.
  *
  * A sum and a sheet do not name their formula: a ledger of the other kind can
  * take them, and its digits would be wrong. So each run has a struct of its own
@@ -52,7 +66,8 @@
  *     row 3 ledger aaaf9647.. worked aaaf9647..
  *
  * with ` differs` at its end where the two differ; the status is then 3, and 0
- * where no row shown differs. Rows are shown in ascending order.
+ * where no row shown differs. Rows are shown in ascending order. The quote of
+ * these tickets and what they made are said on standard error, as of a run.
  *
  * A refusal or a failure ends with status 1, arguments that are not these with 2.
  */
@@ -71,10 +86,18 @@
 
 enum { SUPPLIED = 4, ROWS_DIFFER = 3, DIGITS_DIFFER = 4 };
 
+/* Tickets, and the squarings that they are quoted at. */
+struct tally {
+    uint64_t tickets;
+    uint8_t squarings[BBP_SQUARINGS_SIZE];
+};
+
 struct run {
     const struct kind *kind;
-    uint64_t p, c, done;
+    uint64_t p, c;
     int by_halves;
+    struct tally all, worked, supplied; /* those to be done, and of these done so far: worked here, and of sheets */
+    uint8_t made[BBP_SQUARINGS_SIZE];   /* the squarings that those worked here handed back */
     uint8_t ledger[BBP_LEDGER_SIZE], digits[BBP_DIGITS_SIZE]; /* a check ledger is the shorter */
     int64_t d;
     char *kept;
@@ -95,22 +118,64 @@ static void open_run(struct run *run, const struct kind *kind, uint64_t p, uint6
     run_finished(run, "open", kind->open(p, c, run->ledger, kind->ledger_size));
 }
 
-static void tickets_done(struct run *run, uint64_t count)
+static void add_ticket(const struct run *run, struct tally *tally, uint64_t row, uint64_t block)
 {
-    run->done += count;
-    progress_show(&run->bar, run->done);
+    uint8_t squarings[BBP_SQUARINGS_SIZE];
+    run_finished(run, "quote", run->kind->quote(run->p, run->c, row, block, squarings, sizeof squarings));
+    add_sum(tally->squarings, squarings);
+    tally->tickets++;
+}
+
+static double squarings_in(const struct tally *tally)
+{
+    return (double)number_at(tally->squarings + 8, 8) * 18446744073709551616.0 + (double)number_at(tally->squarings, 8);
+}
+
+static void say_quote(const struct run *run)
+{
+    char room[DECIMAL_ROOM];
+    fprintf(stderr, "%squote: %s squarings in %" PRIu64 " tickets\n", run->kind->word, decimal(run->all.squarings, room),
+            run->all.tickets);
+}
+
+static void start_bar(struct run *run)
+{
+    run->bar = progress_start(squarings_in(&run->all));
+}
+
+static void show_done(struct run *run)
+{
+    progress_show(&run->bar, squarings_in(&run->worked) + squarings_in(&run->supplied));
+}
+
+/* Says what was made and quoted; where the two differ, the program ends. */
+static void say_squarings(const struct run *run)
+{
+    char made[DECIMAL_ROOM], quoted[DECIMAL_ROOM], supplied[DECIMAL_ROOM];
+    fprintf(stderr, "%ssquarings: %s made, %s quoted in %" PRIu64 " tickets worked", run->kind->word, decimal(run->made, made),
+            decimal(run->worked.squarings, quoted), run->worked.tickets);
+    if (run->supplied.tickets > 0)
+        fprintf(stderr, "; %s quoted in %" PRIu64 " tickets of sheets", decimal(run->supplied.squarings, supplied),
+                run->supplied.tickets);
+    fputc('\n', stderr);
+    if (memcmp(run->made, run->worked.squarings, sizeof run->made) != 0) {
+        fprintf(stderr, "%ssquarings: not those that were quoted\n", run->kind->word);
+        exit(1);
+    }
 }
 
 static void work_and_post(struct run *run, uint64_t row, uint64_t block)
 {
     const struct kind *kind = run->kind;
-    uint8_t sum[BBP_SUM_SIZE];
+    uint8_t sum[BBP_SUM_SIZE], squarings[BBP_SQUARINGS_SIZE];
     if (run->by_halves)
-        work_halves(kind, run->p, run->c, row, block, sum);
+        work_halves(kind, run->p, run->c, row, block, sum, squarings);
     else
-        run_finished(run, "work", kind->work(run->p, run->c, row, block, sum, sizeof sum));
+        run_finished(run, "work", kind->work(run->p, run->c, row, block, sum, sizeof sum, squarings, sizeof squarings));
     run_finished(run, "post", kind->post(run->ledger, kind->ledger_size, run->p, run->c, row, block, sum, sizeof sum));
-    tickets_done(run, 1);
+    add_sum(run->made, squarings);
+    add_ticket(run, &run->worked, row, block);
+    show_done(run);
 }
 
 /* The list of a row's tickets that are supplied; gives its length. */
@@ -159,18 +224,29 @@ static void order_and_post(struct run *run, uint64_t row)
     if (kind->look != NULL)
         look_at(run, row, sheet, sheet_len);
     run_finished(run, "sheet post", kind->sheet_post(run->ledger, kind->ledger_size, sheet, sheet_len));
-    tickets_done(run, list_len / 2);
+    for (size_t i = 0; i < list_len / 2; i++)
+        add_ticket(run, &run->supplied, row, list[2 * i]);
+    show_done(run);
+}
+
+static void quote_run(struct run *run)
+{
+    for (uint64_t row = 0; row < run->kind->rows; row++)
+        for (uint64_t block = 0; block < run->c; block++)
+            add_ticket(run, &run->all, row, block);
+    say_quote(run);
 }
 
 static void work_run(struct run *run)
 {
-    run->bar = progress_start(run->kind->rows * run->c);
+    start_bar(run);
     for (uint64_t row = 0; row < run->kind->rows; row++) {
         for (uint64_t block = 0; block < run->c; block++)
             if (block % SUPPLIED != SUPPLIED - 1)
                 work_and_post(run, row, block);
         order_and_post(run, row);
     }
+    progress_end(&run->bar);
 }
 
 static void open_kept(struct run *run, const char *name)
@@ -193,12 +269,13 @@ static void write_kept(struct run *run)
     free(run->kept);
 }
 
-/* Works a run, keeps its ledger if it has a file, closes it and prints its closing line. */
+/* Works a run, keeps its ledger if it has a file, says what it took, closes it and prints its closing line. */
 static void finish_run(struct run *run)
 {
     work_run(run);
     if (run->file != NULL)
         write_kept(run);
+    say_squarings(run);
     run->d = print_closing(run->kind, run->p, run->ledger, run->digits);
 }
 
@@ -256,23 +333,26 @@ static int is_marked(const struct kind *kind, const uint8_t *ledger, uint64_t ro
     return ledger[kind->marks_at + 32 * row + block / 8] >> block % 8 & 1;
 }
 
-static uint64_t marked_tickets(const struct run *run, const uint8_t *ledger, const int *shown)
+static void quote_marked(struct run *run, const uint8_t *ledger, const int *shown)
 {
-    uint64_t count = 0;
     for (uint64_t row = 0; row < run->kind->rows; row++)
         for (uint64_t block = 0; block < run->c; block++)
-            count += shown[row] && is_marked(run->kind, ledger, row, block);
-    return count;
+            if (shown[row] && is_marked(run->kind, ledger, row, block))
+                add_ticket(run, &run->all, row, block);
+    say_quote(run);
 }
 
 /* The marked tickets of the rows shown, into the run's ledger. */
 static void work_marked(struct run *run, const uint8_t *ledger, const int *shown)
 {
-    run->bar = progress_start(marked_tickets(run, ledger, shown));
+    quote_marked(run, ledger, shown);
+    start_bar(run);
     for (uint64_t row = 0; row < run->kind->rows; row++)
         for (uint64_t block = 0; block < run->c; block++)
             if (shown[row] && is_marked(run->kind, ledger, row, block))
                 work_and_post(run, row, block);
+    progress_end(&run->bar);
+    say_squarings(run);
 }
 
 static void print_sum(const char *what, const uint8_t *sum)
@@ -347,6 +427,8 @@ static int accept_runs(const struct options *options, uint64_t p, uint64_t c)
         if (options->kept != NULL)
             open_kept(&runs[i], options->kept);
     }
+    for (int i = 0; i < count; i++)
+        quote_run(&runs[i]);
     for (int i = 0; i < count; i++)
         finish_run(&runs[i]);
     return options->check ? compare_digits(&runs[BELLARD], &runs[CHECK]) : 0;

@@ -3,6 +3,8 @@
  * a run at p = 1 from opening to closing, the halves of a ticket, and the sums
  * of another run; first of a Bellard run, then the same of a check run, with
  * the word `check` before its titles. A look is there in the Bellard run alone.
+ * Then, of both in the same order, the squarings of a ticket and its halves, and
+ * the quotes at the last position.
  */
 #include <bbp.h>
 
@@ -11,22 +13,25 @@
 #include "kinds.h"
 #include "program.h"
 
-enum { P = 1, LINE = 16 };
+enum { P = 1, CHARGED_P = 21, LINE = 16 };
 
 struct ticket {
     uint64_t c, row, block;
 };
 
-/* A run at P with a term in each block, two of its tickets, which come on a sheet, and a ticket that is halved. */
+/*
+ * A run at P with a term in each block, two of its tickets, which come on a
+ * sheet, a ticket that is halved, and a ticket at CHARGED_P for its squarings.
+ */
 struct example {
     const struct kind *kind;
-    struct ticket posted[2], halved;
+    struct ticket posted[2], halved, charged;
     uint8_t ledger[BBP_LEDGER_SIZE]; /* a check ledger is the shorter */
 };
 
 static struct example examples[KINDS] = {
-    {&kinds[BELLARD], {{14, 0, 0}, {14, 3, 1}}, {3, 2, 2}, {0}},
-    {&kinds[CHECK], {{33, 0, 1}, {33, 2, 1}}, {7, 1, 6}, {0}},
+    {&kinds[BELLARD], {{14, 0, 0}, {14, 3, 1}}, {3, 2, 2}, {3, 2, 0}, {0}},
+    {&kinds[CHECK], {{33, 0, 1}, {33, 2, 1}}, {7, 1, 6}, {3, 0, 0}, {0}},
 };
 
 static int is_zero(const uint8_t *line, size_t len)
@@ -56,14 +61,21 @@ static void print_ledger(const struct example *example, const char *title)
     print_bytes(example, title, example->ledger, example->kind->ledger_size);
 }
 
+/* A number of 16 bytes: what it is, and of what. */
+static void print_number(const struct example *example, const char *what, const char *of, uint64_t p, struct ticket ticket,
+                         const uint8_t *number)
+{
+    char title[80];
+    snprintf(title, sizeof title, "%s of %sticket (%" PRIu64 ", %" PRIu64 ") of p = %" PRIu64 ", C = %" PRIu64, what, of,
+             ticket.row, ticket.block, p, ticket.c);
+    print_bytes(example, title, number, LINE);
+}
+
 static void print_sum_by(const struct example *example, work_call *call, const char *of, uint64_t p, struct ticket ticket)
 {
-    uint8_t sum[BBP_SUM_SIZE];
-    char title[80];
-    snprintf(title, sizeof title, "sum of %sticket (%" PRIu64 ", %" PRIu64 ") of p = %" PRIu64 ", C = %" PRIu64, of, ticket.row,
-             ticket.block, p, ticket.c);
-    finished("work", call(p, ticket.c, ticket.row, ticket.block, sum, sizeof sum));
-    print_bytes(example, title, sum, sizeof sum);
+    uint8_t sum[BBP_SUM_SIZE], squarings[BBP_SQUARINGS_SIZE];
+    finished("work", call(p, ticket.c, ticket.row, ticket.block, sum, sizeof sum, squarings, sizeof squarings));
+    print_number(example, "sum", of, p, ticket, sum);
 }
 
 static void print_sum(const struct example *example, uint64_t p, struct ticket ticket)
@@ -112,10 +124,10 @@ static void post_rest(struct example *example)
 {
     const struct kind *kind = example->kind;
     uint64_t c = example->posted[0].c;
-    uint8_t sum[BBP_SUM_SIZE];
+    uint8_t sum[BBP_SUM_SIZE], squarings[BBP_SQUARINGS_SIZE];
     for (uint64_t row = 0; row < kind->rows; row++)
         for (uint64_t block = 0; block < c; block++) {
-            finished("work", kind->work(P, c, row, block, sum, sizeof sum));
+            finished("work", kind->work(P, c, row, block, sum, sizeof sum, squarings, sizeof squarings));
             int64_t answer = kind->post(example->ledger, kind->ledger_size, P, c, row, block, sum, sizeof sum);
             if (answer != -BBP_REFUSED_MARKED)
                 finished("post", answer);
@@ -150,10 +162,43 @@ static void print_example(struct example *example)
         print_sum(example, 1000, (struct ticket){1, row, 0});
 }
 
+static void print_squarings_by(const struct example *example, work_call *call, const char *of)
+{
+    const struct ticket *ticket = &example->charged;
+    uint8_t sum[BBP_SUM_SIZE], squarings[BBP_SQUARINGS_SIZE];
+    finished("work", call(CHARGED_P, ticket->c, ticket->row, ticket->block, sum, sizeof sum, squarings, sizeof squarings));
+    print_number(example, "squarings", of, CHARGED_P, *ticket, squarings);
+}
+
+/* Those of the last position with C = 1: the first in bytes, then all rows in decimal. */
+static void print_quotes(const struct example *example)
+{
+    const struct kind *kind = example->kind;
+    uint64_t p = kind->last_position;
+    uint8_t quotes[BBP_ROWS][BBP_SQUARINGS_SIZE];
+    char room[DECIMAL_ROOM];
+    for (uint64_t row = 0; row < kind->rows; row++)
+        finished("quote", kind->quote(p, 1, row, 0, quotes[row], sizeof quotes[row]));
+    print_number(example, "quote", "", p, (struct ticket){1, 0, 0}, quotes[0]);
+    printf("%squotes of p = %" PRIu64 ", C = 1: row, squarings\n", kind->word, p);
+    for (uint64_t row = 0; row < kind->rows; row++)
+        printf("%" PRIu64 " %s\n", row, decimal(quotes[row], room));
+}
+
+static void print_charges(const struct example *example)
+{
+    print_squarings_by(example, example->kind->work_lower, "the lower half of ");
+    print_squarings_by(example, example->kind->work_upper, "the upper half of ");
+    print_squarings_by(example, example->kind->work, "");
+    print_quotes(example);
+}
+
 int main(void)
 {
     for (int kind = 0; kind < KINDS; kind++)
         print_example(&examples[kind]);
+    for (int kind = 0; kind < KINDS; kind++)
+        print_charges(&examples[kind]);
     end_output();
     return 0;
 }

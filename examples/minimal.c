@@ -15,11 +15,11 @@ static int64_t finished(int64_t answer)
 
 int main(void)
 {
-    uint8_t ledger[BBP_LEDGER_SIZE], sum[BBP_SUM_SIZE], digits[BBP_DIGITS_SIZE];
+    uint8_t ledger[BBP_LEDGER_SIZE], sum[BBP_SUM_SIZE], squarings[BBP_SQUARINGS_SIZE], digits[BBP_DIGITS_SIZE];
     const uint64_t p = 1000, c = 1;
     finished(bbp_open(p, c, ledger, sizeof ledger));
     for (uint64_t row = 0; row < BBP_ROWS; row++) {
-        finished(bbp_work(p, c, row, 0, sum, sizeof sum));
+        finished(bbp_work(p, c, row, 0, sum, sizeof sum, squarings, sizeof squarings));
         finished(bbp_post(ledger, sizeof ledger, p, c, row, 0, sum, sizeof sum));
     }
     int64_t d = finished(bbp_close(ledger, sizeof ledger, digits, sizeof digits));

@@ -1,4 +1,4 @@
-/* What the programs over bbp.h share: numbers in arguments and in bytes, sums, refusals in words, the end of the output. */
+/* What the programs over bbp.h share: numbers in arguments, in bytes and in decimal, sums, refusals in words, the end of the output. */
 #ifndef PROGRAM_H
 #define PROGRAM_H
 
@@ -8,6 +8,7 @@
 #include <inttypes.h>
 #include <stdio.h>
 #include <stdlib.h>
+#include <string.h>
 
 /* Decimal digits alone, and a value of at most 64 bits; anything else ends the program. */
 static inline uint64_t number(const char *text)
@@ -31,7 +32,27 @@ static inline uint64_t number_at(const uint8_t *at, int bytes)
     return value;
 }
 
-/* Adds to a sum modulo 2^128: what is carried out of the last byte is dropped. */
+/* A sum or squarings, which can pass 64 bits, in decimal; the text is in the room given. */
+enum { DECIMAL_ROOM = 40 };
+static inline const char *decimal(const uint8_t number[16], char room[DECIMAL_ROOM])
+{
+    uint8_t rest[16], zero[16] = {0};
+    char *at = room + DECIMAL_ROOM - 1;
+    memcpy(rest, number, 16);
+    *at = '\0';
+    do {
+        unsigned remainder = 0;
+        for (int i = 15; i >= 0; i--) {
+            remainder = 256 * remainder + rest[i];
+            rest[i] = (uint8_t)(remainder / 10);
+            remainder %= 10;
+        }
+        *--at = (char)('0' + remainder);
+    } while (memcmp(rest, zero, 16) != 0);
+    return at;
+}
+
+/* Adds to a sum modulo 2^128: what is carried out of the last byte is dropped. Squarings never come to that. */
 static inline void add_sum(uint8_t *sum, const uint8_t *more)
 {
     unsigned carry = 0;

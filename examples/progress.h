@@ -7,10 +7,10 @@
 #include <time.h>
 #include <unistd.h>
 
+/* What is to be done is a number of tickets, or of squarings, which can pass 64 bits. */
 struct progress {
     int on;
-    uint64_t all;
-    double began, shown;
+    double all, began, shown;
     int unended; /* the bar stands at the end of the output, with no newline after it */
 };
 
@@ -21,7 +21,7 @@ static double progress_clock(void)
     return (double)now.tv_sec + 1e-9 * (double)now.tv_nsec;
 }
 
-static struct progress progress_start(uint64_t all)
+static struct progress progress_start(double all)
 {
     struct progress bar = {isatty(STDERR_FILENO), all, progress_clock(), 0, 0};
     return bar;
@@ -35,22 +35,35 @@ static void progress_end_line(struct progress *bar)
     bar->unended = 0;
 }
 
-/* The time left, if the rest takes as long for each ticket as those done so far. */
-static void progress_show(struct progress *bar, uint64_t done)
+/* Some part of all, from 0 to 1, and the time left, if the rest takes as long for its part. */
+static void progress_draw(struct progress *bar, double part)
 {
     enum { WIDTH = 40 };
-    double now = progress_clock(), spent = now - bar->began;
-    if (!bar->on || (done < bar->all && now - bar->shown < 0.1))
+    double spent = progress_clock() - bar->began, left = part > 0 ? spent / part * (1 - part) : 0;
+    fputs("\r[", stderr);
+    for (int i = 0; i < WIDTH; i++)
+        fputc(i < part * WIDTH ? '#' : '.', stderr);
+    fprintf(stderr, "] %3u%%  %.0f s spent, %.0f s left   ", (unsigned)(100 * part), spent, left);
+    bar->unended = 1;
+}
+
+/* That all is done is shown at the end alone: what is left then may take time, if nothing of what is counted. */
+static void progress_show(struct progress *bar, double done)
+{
+    double now = progress_clock();
+    if (!bar->on || done >= bar->all || now - bar->shown < 0.1)
         return;
     bar->shown = now;
-    double left = done > 0 ? spent / (double)done * (double)(bar->all - done) : 0;
-    fputs("\r[", stderr);
-    for (uint64_t i = 0; i < WIDTH; i++)
-        fputc(i * bar->all < done * WIDTH ? '#' : '.', stderr);
-    fprintf(stderr, "] %3u%%  %.0f s spent, %.0f s left   ", (unsigned)(100 * done / bar->all), spent, left);
-    bar->unended = 1;
-    if (done == bar->all)
-        progress_end_line(bar);
+    progress_draw(bar, done / bar->all);
+}
+
+/* Shown once, also where there was nothing to do. */
+static void progress_end(struct progress *bar)
+{
+    if (!bar->on)
+        return;
+    progress_draw(bar, 1);
+    progress_end_line(bar);
 }
 
 #endif

@@ -13,14 +13,15 @@ same() {
 }
 
 # prints STATUS TEXT PROGRAM.. - with that status, and the text on standard output; what standard error got is left in
-# `said`, but for lines of looks, which are left in `looked`.
+# `said`, but for lines of looks, which are left in `looked`, and of quotes and squarings, which are left in `billed`.
 prints() {
-    local wanted=$1 text=$2 status
+    local wanted=$1 text=$2 status bill='^(check )?(quote|squarings): [0-9]'
     shift 2
     "$@" >"$scratch/out" 2>"$scratch/err"
     status=$?
     looked=$(grep -a '^look at ' "$scratch/err")
-    said=$(grep -a -v '^look at ' "$scratch/err")
+    billed=$(grep -a -E "$bill" "$scratch/err")
+    said=$(grep -a -v -E "^look at |$bill" "$scratch/err")
     same "the status of $*" "$status" "$wanted"
     same "what $* prints" "$(cat "$scratch/out")" "$text"
 }

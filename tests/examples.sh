@@ -1,7 +1,8 @@
 #!/usr/bin/env bash
 # examples.sh MINIMAL ACCEPTANCE - the examples, run: digits of pi at 1 and 1,000, refusals, arguments that are no
-# numbers, output that cannot be written, sheets looked at before they are posted, tickets worked by halves, check runs
-# beside the others, ledgers of both kinds kept and their rows shown, and the bytes that docs/FORMATS.md shows.
+# numbers, output that cannot be written, sheets looked at before they are posted, tickets worked by halves, squarings
+# quoted and made, check runs beside the others, ledgers of both kinds kept and their rows shown, and the bytes that
+# docs/FORMATS.md shows.
 # ENGINE is the library that they are built with.
 set -u
 minimal=$1
@@ -57,7 +58,7 @@ for call in open work post close; do
     refusing examples/minimal.c bbp_$call
     same "what minimal says of $call" "$said" "refused 7"
 done
-for call in open work post sheet_write sheet_read look sheet_post close; do
+for call in open quote work post sheet_write sheet_read look sheet_post close; do
     refusing examples/acceptance.c bbp_$call 1000 5
     same "what acceptance says of $call" "$said" "${call/_/ }: refused 7: ticket marked already"
     ends 1 "$scratch/refusing" --check 1000 5
@@ -69,11 +70,11 @@ for half in lower upper; do
     same "what acceptance says of the $half half" "$said" "work $half: refused 7: ticket marked already"
 done
 
-# The check run is opened before the work and worked after the other run. Without --check it is neither.
-for call in open work post sheet_write sheet_read sheet_post close work_lower work_upper; do
+# The check run is opened and quoted before the work and worked after the other run. Without --check it is neither.
+for call in open quote work post sheet_write sheet_read sheet_post close work_lower work_upper; do
     wrapped refusing examples/acceptance.c "$(instead bbp_check_$call -7)"
     before=$line option=
-    case $call in open) before= ;; work_*) option=--halves ;; esac
+    case $call in open | quote) before= ;; work_*) option=--halves ;; esac
     prints 1 "$before" "$scratch/refusing" --check $option 1000 5
     same "what acceptance --check says of check $call" "$said" "check ${call/_/ }: refused 7: ticket marked already"
     prints 0 "$line" "$scratch/refusing" $option 1000 5
@@ -96,12 +97,23 @@ ${CC:-gcc} -std=c99 -Wall -Wextra -Werror -Iinclude examples/formats.c "$ENGINE"
 same "the bytes in docs/FORMATS.md" "$(sed -n '/^```text/,/^```$/p' docs/FORMATS.md | grep -v '^```')" "$("$scratch/formats")"
 unwritable "$scratch/formats"
 
-# The word for a ticket in tests/vectors.txt and the rows, of Bellard's runs; check_rows COMMAND.. - the same of check runs.
-ticket=ticket rows='0 1 2 3 4 5 6'
-check_rows() { ticket=check-ticket rows='0 1 2 3' "$@"; }
+# What stands before the words of lines in tests/vectors.txt, and the rows, of Bellard's runs; check_rows COMMAND.. - the
+# same of check runs.
+prefix= rows='0 1 2 3 4 5 6'
+check_rows() { prefix=check- rows='0 1 2 3' "$@"; }
 
 # sum_of P ROW - the sum of all terms of a row, as tests/vectors.txt has it for the row's one ticket where C is 1.
-sum_of() { sed -n "s/^$ticket $1 1 $2 0 \([0-9a-f]*\) .*/\1/p" tests/vectors.txt; }
+sum_of() { sed -n "s/^${prefix}ticket $1 1 $2 0 \([0-9a-f]*\) .*/\1/p" tests/vectors.txt; }
+
+# squarings_of P C BLOCK [ROW ..] - those of the block in all rows, or in these, as tests/vectors.txt has them.
+squarings_of() {
+    local place="$1 $2" block=$3 row sum=0
+    shift 3
+    for row in ${*:-$rows}; do
+        sum=$((sum + $(sed -n "s/^${prefix}squarings $place $row $block //p" tests/vectors.txt)))
+    done
+    echo $sum
+}
 
 # lines P [ROW SUM] - what --rows prints of a full ledger that has another sum in one row.
 lines() {
@@ -144,7 +156,7 @@ full_ledgers() {
         prints 0 "$(lines ${run% *})" "$acceptance" --rows "$ledger"
         same "what --rows says of a full ledger" "$said" ""
     done
-    same "--rows of standard input" "$("$acceptance" --rows - <"$ledger")" "$(lines 1000)"
+    same "--rows of standard input" "$("$acceptance" --rows - <"$ledger" 2>/dev/null)" "$(lines 1000)"
     prints 0 "$(lines 1000 | sed -n 4p)" "$acceptance" --rows "$ledger" 3
     prints 0 "$(lines 1000 | sed -n '1p; 3p; 7p')" "$acceptance" --rows "$ledger" 6 0 2
     prints 0 "$(lines 1000)" "$acceptance" --rows "$ledger" 0 1 2 3 4 5 6
@@ -200,7 +212,11 @@ unfinished_ledgers() {
     prints 0 "row 0 ledger $none worked $none" timeout 60 "$acceptance" --rows "$ledger" 0
     prints 0 "row 5 ledger $none worked $none" timeout 60 "$acceptance" --rows "$ledger" 5
     ends 124 timeout 1 "$acceptance" --rows "$ledger" 6
+    same "the quote of that ticket" "$billed" "quote: $(number_of squarings 1152921504606846976 6) squarings in 1 tickets"
 }
+
+# number_of WORD P ROW - the number in the line of tests/vectors.txt for the row's one ticket where C is 1.
+number_of() { sed -n "s/^$1 $2 1 $3 0 //p" tests/vectors.txt; }
 
 # failing TEXT LINE.. - built with these lines, a run by halves ends with status 1, and says that.
 failing() {
@@ -278,6 +294,131 @@ looking() {
     wrapped stopped examples/acceptance.c "$(instead bbp_look -7)" "$(instead bbp_sheet_post -3)"
     ends 1 "$scratch/stopped" 1000 5
     same "what is said of a sheet that would be refused" "$said" "look: refused 7: ticket marked already"
+}
+
+# quote_line WORD P TICKETS [ROW ..] - of all tickets of these rows, whatever C.
+quote_line() { echo "$1quote: $(squarings_of "$2" 1 0 "${@:4}") squarings in $3 tickets"; }
+
+# made_line WORD QUOTED TICKETS [SUPPLIED TICKETS] - of tickets that made what they were quoted at, and of those of sheets.
+made_line() {
+    echo "$1squarings: $2 made, $2 quoted in $3 tickets worked${4:+; $4 quoted in $5 tickets of sheets}"
+}
+
+# With C = 7 block 3 of each row comes on its sheet, and the others are worked: both have their lines in tests/vectors.txt.
+run_lines() {
+    local word=$1 p=$2 count=$3 supplied
+    supplied=$(squarings_of "$p" 7 3)
+    quote_line "$word" "$p" $((7 * count))
+    made_line "$word" $(($(squarings_of "$p" 1 0) - supplied)) $((6 * count)) "$supplied" "$count"
+}
+
+# The quote before the work, and what was made of it; both quotes before either run.
+billing() {
+    local p halves bellard check
+    for p in 1000 12345; do
+        bellard=$(run_lines '' $p 7) check=$(check_rows run_lines 'check ' $p 4)
+        for halves in '' --halves; do
+            "$acceptance" $halves $p 7 >/dev/null 2>"$scratch/err"
+            same "the first line of $halves $p" "$(head -n 1 "$scratch/err")" "${bellard%%$'\n'*}"
+            same "the last line of $halves $p" "$(tail -n 1 "$scratch/err")" "${bellard#*$'\n'}"
+            "$acceptance" $halves --check $p 7 >/dev/null 2>"$scratch/err"
+            same "the quotes of --check $halves $p" "$(head -n 2 "$scratch/err")" \
+                "${bellard%%$'\n'*}"$'\n'"${check%%$'\n'*}"
+            same "the squarings of --check $halves $p" "$(grep squarings: "$scratch/err")" \
+                "${bellard#*$'\n'}"$'\n'"${check#*$'\n'}"
+        done
+    done
+    # Position 2^60, which no machine can work: the seven quotes of tests/vectors.txt come to this.
+    ends 124 timeout 1 "$acceptance" 1152921504606846976
+    same "the quote of position 2^60" "$billed" "quote: 193690812773950294528 squarings in 1792 tickets"
+    ends 124 timeout 1 "$acceptance" --check 576460752303423488 3
+    same "the check quote of position 2^59" "${billed#*$'\n'}" "check quote: 136044737543607946694 squarings in 12 tickets"
+}
+
+# Without sheets their part is left out; with them, both parts come to the quote.
+billed_runs() {
+    local p c made supplied
+    for p in 1 17; do
+        for c in 1 3; do
+            prints 0 "$("$acceptance" $p 2>/dev/null)" "$acceptance" $p $c
+            same "the squarings of $p $c" "$billed" \
+                "$(quote_line '' $p $((7 * c)); made_line '' "$(squarings_of $p 1 0)" $((7 * c)))"
+        done
+    done
+    for c in 4 5 255 256; do
+        prints 0 "$line" "$acceptance" 1000 $c
+        read -r _ made _ _ _ _ _ _ _ supplied _ <<<"${billed#*$'\n'}"
+        same "all squarings of C = $c" $((made + supplied)) "$(squarings_of 1000 1 0)"
+        same "the squarings of C = $c" "$billed" \
+            "$(quote_line '' 1000 $((7 * c)); made_line '' $made $((7 * (c - c / 4))) $supplied $((7 * (c / 4))))"
+    done
+}
+
+# The rows shown, with their own tickets alone. No term of row 0 reaches 128 at p = 1.
+billed_rows() {
+    "$acceptance" --check --keep "$ledger" 1000 5 >/dev/null 2>&1
+    prints 0 "$(lines 1000)" "$acceptance" --rows "$ledger"
+    same "the squarings of --rows" "$billed" "$(quote_line '' 1000 35; made_line '' "$(squarings_of 1000 1 0)" 35)"
+    prints 0 "$(lines 1000 | sed -n '3p; 7p')" "$acceptance" --rows "$ledger" 6 2
+    same "the squarings of two rows" "$billed" "$(quote_line '' 1000 10 2 6; made_line '' "$(squarings_of 1000 1 0 2 6)" 10)"
+    prints 0 "$(check_rows lines 1000)" "$acceptance" --rows "$ledger.check"
+    same "the squarings of check rows" "$billed" \
+        "$(check_rows quote_line 'check ' 1000 20; made_line 'check ' "$(check_rows squarings_of 1000 1 0)" 20)"
+    "$acceptance" --keep "$ledger" 1 3 >/dev/null 2>&1
+    prints 0 "$(lines 1 | sed -n 1p)" "$acceptance" --rows "$ledger" 0
+    same "no squarings" "$billed" "$(quote_line '' 1 3 0; made_line '' 0 3)"
+    same "no squarings in tests/vectors.txt" "$(squarings_of 1 1 0 0)" 0
+}
+
+# wrong_bill CALL CHANGE OPTIONS OUTPUT WORD BILL - a call that spoils the squarings of a ticket ends the program before it
+# closes, with the ledger kept.
+wrong_bill() {
+    wrapped billed examples/acceptance.c 'static int64_t given;' "$(instead "$1" "(given = $(call "$1"), $2, given)")"
+    rm -f "$ledger" "$ledger.check"
+    prints 1 "$4" "$scratch/billed" $3 --keep "$ledger" 1000 7
+    same "what is said where $1 does $2" "$said" "$5squarings: not those that were quoted"
+    same "the line where $1 does $2" "$(tail -n 1 <<<"$billed")" "$6"
+    same "the ledger kept where $1 does $2" "$("$acceptance" --rows "$ledger${5:+.check}" 2>/dev/null | grep -c -v differs)" \
+        "$(wc -w <<<"$rows")"
+}
+
+# One more in a ticket's squarings, and 2^64 more, beside what was quoted.
+billed_wrong() {
+    local one='row == 2 && block == 1' supplied quoted rest more=18446744073709551616
+    supplied=$(squarings_of 1000 7 3) quoted=$(($(squarings_of 1000 1 0) - supplied))
+    rest="quoted in 42 tickets worked; $supplied quoted in 7 tickets of sheets"
+    wrong_bill bbp_work "squarings[0] += $one" '' '' '' "squarings: $((quoted + 1)) made, $quoted $rest"
+    wrong_bill bbp_work "squarings[8] += $one" '' '' '' "squarings: ${more%??????}$((${more: -6} + quoted)) made, $quoted $rest"
+    wrong_bill bbp_work_lower "squarings[0] += $one" --halves '' '' "squarings: $((quoted + 1)) made, $quoted $rest"
+    wrong_bill bbp_work_upper "squarings[0] -= $one" --halves '' '' "squarings: $((quoted - 1)) made, $quoted $rest"
+    wrong_bill bbp_quote "squarings[0] += $one" '' '' '' "squarings: $quoted made, $((quoted + 1)) $rest"
+    supplied=$(check_rows squarings_of 1000 7 3) quoted=$(($(check_rows squarings_of 1000 1 0) - supplied))
+    rest="quoted in 24 tickets worked; $supplied quoted in 4 tickets of sheets"
+    check_rows wrong_bill bbp_check_work "squarings[0] += $one" --check "$line" 'check ' \
+        "check squarings: $((quoted + 1)) made, $quoted $rest"
+}
+
+# bar_parts - the parts that the bars of `said` show.
+bar_parts() { grep -a -o '[0-9]*%' <<<"$said"; }
+
+# On a terminal all is shown once, at the end. The first bar is after the first ticket: at p = 17, C = 3 that has nearly all
+# squarings of its row and is one of 21 tickets.
+bars() {
+    local run options
+    wrapped seen examples/acceptance.c '#include <unistd.h>' '#define isatty(file) 1'
+    for run in '1 1' '1 3' '1 256' '17 3' '1000 1' '1000 3' '1000 5'; do
+        for options in '' --halves; do
+            prints 0 "$("$acceptance" $run 2>/dev/null)" "$scratch/seen" $options $run
+            same "bars of $options $run that show all" "$(bar_parts | grep -c '^100%')" 1
+            same "the last bar of $options $run" "$(bar_parts | tail -n 1)" 100%
+        done
+    done
+    prints 0 "$("$acceptance" 17 2>/dev/null)" "$scratch/seen" 17 3
+    same "the first bar of 17 3" "$(bar_parts | head -n 1)" \
+        $((100 * $(squarings_of 17 3 0 0) / $(squarings_of 17 1 0)))%
+    "$acceptance" --keep "$ledger" 1 3 >/dev/null 2>&1
+    prints 0 "$(lines 1 | sed -n 1p)" "$scratch/seen" --rows "$ledger" 0
+    same "the bars of no squarings" "$(bar_parts)" 100%
 }
 
 # The run without --check stays as it is, line and ledger; the check run's ledger is the one that docs/FORMATS.md shows.
@@ -443,7 +584,7 @@ check_ledgers() {
         "$acceptance" --check --keep "$ledger" $run >/dev/null 2>&1
         prints 0 "$(check_rows lines ${run% *})" "$acceptance" --rows "$check"
     done
-    same "--rows of standard input" "$("$acceptance" --rows - <"$check")" "$(check_rows lines 1000)"
+    same "--rows of standard input" "$("$acceptance" --rows - <"$check" 2>/dev/null)" "$(check_rows lines 1000)"
     prints 0 "$(check_rows lines 1000 | sed -n '1p; 4p')" "$acceptance" --rows "$check" 3 0
     for row in 4 6 7; do
         ends 2 "$acceptance" --rows "$check" "$row"
@@ -459,6 +600,8 @@ check_ledgers() {
     { printf '\0\0\0\0\0\0\0\10\1'; head -c 167 /dev/zero; printf '\1'; head -c 31 /dev/zero; } >"$check"
     prints 0 "row 2 ledger $none worked $none" timeout 60 "$acceptance" --rows "$check" 2
     ends 124 timeout 1 "$acceptance" --rows "$check" 3
+    same "the quote of that ticket" "$billed" \
+        "check quote: $(number_of check-squarings 576460752303423488 3) squarings in 1 tickets"
     # One position more.
     printf '\1' | dd of="$check" bs=1 conv=notrunc status=none
     ends 1 "$acceptance" --rows "$check" 2
@@ -468,7 +611,7 @@ check_ledgers() {
 # refused_calls PREFIX WORD LEDGER - each call of the kind is refused in turn, and --rows says which.
 refused_calls() {
     local call
-    for call in open work post; do
+    for call in open quote work post; do
         refusing examples/acceptance.c "bbp_$1$call" --rows "$3"
         same "what --rows says of $2$call" "$said" "$2$call: refused 7: ticket marked already"
     done
@@ -523,6 +666,11 @@ unsettled bbp_close close "" 0
 unsettled bbp_check_close "check close" "$line" 208
 unwritable_lines
 apart
+billing
+billed_runs
+billed_rows
+billed_wrong
+bars
 full_ledgers
 spoiled_ledgers
 differing_runs

@@ -146,7 +146,7 @@ static void wait_for_one(void)
         exit(1);
     }
     farm.running--;
-    progress_show(&farm.bar, ++farm.done);
+    progress_show(&farm.bar, (double)++farm.done);
 }
 
 static void start_ticket(uint64_t row, uint64_t block)
@@ -174,13 +174,14 @@ static uint64_t kept_tickets(void)
 static void work_missing(void)
 {
     uint8_t sheet[SHEET_LEN];
-    farm.bar = progress_start(farm.kind->rows * farm.c - kept_tickets());
+    farm.bar = progress_start((double)(farm.kind->rows * farm.c - kept_tickets()));
     for (uint64_t block = 0; block < farm.c; block++)
         for (uint64_t row = 0; row < farm.kind->rows; row++)
             if (!load_sheet(row, block, sheet))
                 start_ticket(row, block);
     while (farm.running > 0)
         wait_for_one();
+    progress_end(&farm.bar);
 }
 
 static void post_all(uint8_t *ledger)
