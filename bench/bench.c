@@ -3,8 +3,10 @@
  * Working is compared with the plain C of bench/plain.c, and with the engine's
  * own halves, ticket by ticket and turn by turn. Figures say nothing about
  * whether answers are right; the sums are compared all the same, so that equal
- * work is timed. Last comes the stack that a half takes. Lines of check runs
- * start with the word `check`; the calls that keep books are timed by Bellard's.
+ * work is timed. The engine counts its squarings as it works, the plain C does
+ * not. Last come the quotes at the last position, and the stack that a half
+ * takes. Lines of check runs start with the word `check`; the calls that keep
+ * books are timed by Bellard's.
  */
 #define _POSIX_C_SOURCE 200809L
 
@@ -21,7 +23,7 @@
 #include "plain.h"
 #include "program.h"
 
-enum { BLOCKS = 256, REPETITIONS = 15, LEDGERS = 64, STACK = 1 << 20, UNTOUCHED = 0xA5 };
+enum { BLOCKS = 256, REPETITIONS = 15, LEDGERS = 64, QUOTES = 64, STACK = 1 << 20, UNTOUCHED = 0xA5 };
 
 /* Every `step`-th block of each row, so that a repetition takes some tenths of a second. */
 static const struct {
@@ -49,7 +51,8 @@ static const struct {
 
 static void engine_work(int kind, uint64_t p, uint64_t row, uint64_t block, uint8_t sum[16])
 {
-    finished("work", kinds[kind].work(p, BLOCKS, row, block, sum, 16));
+    uint8_t squarings[16];
+    finished("work", kinds[kind].work(p, BLOCKS, row, block, sum, 16, squarings, 16));
 }
 
 static void plain_c_work(int kind, uint64_t p, uint64_t row, uint64_t block, uint8_t sum[16])
@@ -59,9 +62,9 @@ static void plain_c_work(int kind, uint64_t p, uint64_t row, uint64_t block, uin
 
 static void engine_halves(int kind, uint64_t p, uint64_t row, uint64_t block, uint8_t sum[16])
 {
-    uint8_t upper[16];
-    finished("work lower", kinds[kind].work_lower(p, BLOCKS, row, block, sum, 16));
-    finished("work upper", kinds[kind].work_upper(p, BLOCKS, row, block, upper, 16));
+    uint8_t upper[16], squarings[16];
+    finished("work lower", kinds[kind].work_lower(p, BLOCKS, row, block, sum, 16, squarings, 16));
+    finished("work upper", kinds[kind].work_upper(p, BLOCKS, row, block, upper, 16, squarings, 16));
     add_sum(sum, upper);
 }
 
@@ -223,15 +226,33 @@ static void compare_books(void)
     time_calls("closing a full ledger of C = 256", 1, nothing, close_ledger);
 }
 
+static const struct kind *quoted;
+
+/* One quote is too short for the clock. */
+static void quote_all(void)
+{
+    uint8_t squarings[16];
+    for (int i = 0; i < QUOTES; i++)
+        finished("quote", quoted->quote(quoted->last_position, 1, 0, 0, squarings, 16));
+}
+
+static void time_quote(int kind)
+{
+    char title[80];
+    quoted = &kinds[kind];
+    snprintf(title, sizeof title, "%squote at p = %s, C = 1", kinds[kind].word, extras[kind].last);
+    time_calls(title, QUOTES, nothing, quote_all);
+}
+
 static uint8_t stacks[KINDS][STACK] __attribute__((aligned(4096)));
 static volatile uintptr_t stack_before;
 
 static void *work_largest_half(void *kind)
 {
     const struct kind *of = kind;
-    uint8_t sum[16];
+    uint8_t sum[16], squarings[16];
     stack_before = (uintptr_t)__builtin_frame_address(0);
-    finished("work lower", of->work_lower(of->last_position, 1, 0, 0, sum, 16));
+    finished("work lower", of->work_lower(of->last_position, 1, 0, 0, sum, 16, squarings, 16));
     return NULL;
 }
 
@@ -263,6 +284,8 @@ int main(void)
     compare_runs(BELLARD);
     compare_books();
     compare_runs(CHECK);
+    time_quote(BELLARD);
+    time_quote(CHECK);
     measure_stack(BELLARD);
     measure_stack(CHECK);
     return 0;
