@@ -2,7 +2,6 @@
 #ifndef PROGRESS_H
 #define PROGRESS_H
 
-#include <stdint.h>
 #include <stdio.h>
 #include <time.h>
 #include <unistd.h>
@@ -47,7 +46,7 @@ static void progress_draw(struct progress *bar, double part)
     bar->unended = 1;
 }
 
-/* That all is done is shown at the end alone: what is left then may take time, if nothing of what is counted. */
+/* That all is done is for progress_end to show: tickets that take no squarings may still be left. */
 static void progress_show(struct progress *bar, double done)
 {
     double now = progress_clock();
@@ -57,7 +56,7 @@ static void progress_show(struct progress *bar, double done)
     progress_draw(bar, done / bar->all);
 }
 
-/* Shown once, also where there was nothing to do. */
+/* Shows that all is done, also where there was nothing to do. */
 static void progress_end(struct progress *bar)
 {
     if (!bar->on)

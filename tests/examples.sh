@@ -401,7 +401,7 @@ billed_wrong() {
 # bar_parts - the parts that the bars of `said` show.
 bar_parts() { grep -a -o '[0-9]*%' <<<"$said"; }
 
-# On a terminal all is shown once, at the end. The first bar is after the first ticket: at p = 17, C = 3 that has nearly all
+# On a terminal a bar shows that all is done once, at the end. The first bar is after the first ticket: at p = 17, C = 3 that has nearly all
 # squarings of its row and is one of 21 tickets.
 bars() {
     local run options

@@ -418,7 +418,17 @@ def far_ticket_and_halves(f):
     sum_line(f, "far", *FAR_CHECK_TICKET, half_lines(f, *FAR_CHECK_TICKET, ("far-lower", "far-upper")))
 
 
-# Those of all tickets and halves above, each once, then tickets that no machine can work.
+FAR_EXPONENTS = (11 * 10**8, 256, 3, 0)
+
+
+def far_exponents(f):
+    title(f, "A ticket of some million terms, with E above 2^32: {}far")
+    p, c, row, i = FAR_EXPONENTS
+    assert numbers(f, p, row, block(f, p, c, i)[1])[1] > 1 << 32
+    ticket_line(f, *FAR_EXPONENTS, "far")
+
+
+# Those of all tickets and halves above, each once, then of tickets farther on, most of which no machine can work.
 def squarings(f, cases):
     title(f, "Squarings: {}squarings, {}squarings-lower or {}squarings-upper, p C row block number")
     cases = list(dict.fromkeys(cases + half_cases(f)))
@@ -485,7 +495,8 @@ def bellard_runs():
     half_blocks(f)
     half_tickets(f)
     far_halves(f)
-    squarings(f, cases + [*FAR_TICKETS, FAR_HALVES])
+    far_exponents(f)
+    squarings(f, cases + [*FAR_TICKETS, FAR_HALVES, FAR_EXPONENTS])
     closings(f)
     worked_runs(f, 30, 529)
 
@@ -501,7 +512,8 @@ def check_runs():
     half_blocks(f)
     half_tickets(f)
     far_ticket_and_halves(f)
-    squarings(f, cases + [FAR_CHECK_TICKET])
+    far_exponents(f)
+    squarings(f, cases + [FAR_CHECK_TICKET, FAR_EXPONENTS])
     closings(f)
     worked_runs(f, 29, 117)
 

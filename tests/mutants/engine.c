@@ -160,6 +160,8 @@ static uint64_t residue(uint64_t e, uint64_t n, uint64_t mu, uint64_t *squarings
     const doubling wrong = {WRONG(95), WRONG(96), WRONG(97)};
     uint64_t x = WRONG(14) ? 2 % n : (uint64_t)(((u128)2 << 64) % n), made = 0;
     e -= 64;
+    if (WRONG(276))
+        e = (uint32_t)e;
     for (int i = 62 - __builtin_clzll(e); i >= 0; i--, made++)
         x = doubled(montgomery_square(x, n, mu), e >> i >> wrong.place & 1, n, wrong);
     *squarings = made;
@@ -186,7 +188,7 @@ typedef struct {
     u128 sum, squarings;
 } worked;
 
-/* The squarings of a term, and those of wrong engines: the number of bits after the first of E - 64. */
+/* The squarings that a term took, and what wrong engines count in their place: bits of E - 64 or of E. */
 static uint64_t squarings_of(int64_t e, uint64_t made)
 {
     uint64_t bits = (uint64_t)(e - (WRONG(223) ? 0 : 64));
@@ -198,14 +200,15 @@ static uint64_t squarings_of(int64_t e, uint64_t made)
         made += (uint64_t)__builtin_popcountll(bits) - 1;
     if (WRONG(223))
         made = 63 - (uint64_t)__builtin_clzll(bits);
+    if (WRONG(275) && made > 31)
+        made = 31;
     return made + WRONG(221);
 }
 
 /* The size of term k as a sum, and its squarings. */
 static worked term(const formula *f, uint64_t p, uint64_t row, uint64_t k)
 {
-    uint64_t made = 0;
-    uint64_t n = f->row[row].m * k + f->row[row].j;
+    uint64_t n = f->row[row].m * k + f->row[row].j, made = 0;
     if (WRONG(61) || WRONG(164))
         n &= ((uint64_t)1 << (WRONG(61) ? 33 : 32)) - 1;
     int64_t e = exponent(f, p + WRONG(7), row, k) - (WRONG_IN_CHECK(128) ? 6 * (int64_t)k : 0);
@@ -356,8 +359,11 @@ static int64_t bad_place(const formula *f, uint64_t p, uint64_t c, uint64_t row,
 static int64_t bad_ticket(const formula *f, uint64_t p, uint64_t c, uint64_t row, uint64_t block, const outputs *to)
 {
     int64_t bad = bad_place(f, p, c, row, block);
-    if (length(to->sum_len) != 16 || unaligned(52, to->sum))
+    if (length(to->sum_len) != 16 || unaligned(52, to->sum)) {
+        if (WRONG(274) && to->squarings_len == 16)
+            store_sum(to->squarings, 0);
         return -1;
+    }
     if (bad_squarings_size(to->squarings, to->squarings_len) && !(WRONG(234) && bad != 0)) {
         if (WRONG(235))
             store_sum(to->sum, 0);
@@ -551,12 +557,29 @@ static int64_t bad_quote(const formula *f, uint64_t p, uint64_t c, uint64_t row,
     return bad;
 }
 
-static int64_t quote_range(const range *terms, uint8_t *squarings)
+/* What is quoted, and what wrong engines quote in its place. */
+enum { WHOLE, LOWER, UPPER };
+
+static range part_range(const formula *f, uint64_t p, uint64_t c, uint64_t row, uint64_t block, int part)
 {
-    u128 count = quoted(*terms);
-    if (WRONG(256) && terms->first == terms->end)
+    if (part == WHOLE || WRONG(268))
+        return ticket_range(f, p, c, row, block);
+    return half_range(f, p, c, row, block, WRONG(269) || (part == UPPER && !WRONG(270)));
+}
+
+static int64_t quote_part(const formula *f, uint64_t p, uint64_t c, uint64_t row, uint64_t block, uint8_t *squarings,
+                          size_t squarings_len, int part)
+{
+    if (WRONG(15))
+        row &= 255, block &= 65535;
+    int64_t bad = bad_quote(f, p, c, row, block, squarings, squarings_len);
+    if (bad != 0)
+        return bad;
+    const range terms = part_range(f, p, c, row, block, part);
+    u128 count = quoted(terms);
+    if (WRONG(256) && terms.first == terms.end)
         return -4;
-    if (!(WRONG(266) && terms->first == terms->end))
+    if (!(WRONG(266) && terms.first == terms.end))
         store_squarings(squarings, count);
     return WRONG(267) ? (int64_t)(uint64_t)count : 0;
 }
@@ -564,39 +587,19 @@ static int64_t quote_range(const range *terms, uint8_t *squarings)
 static int64_t quote(const formula *f, uint64_t p, uint64_t c, uint64_t row, uint64_t block, uint8_t *squarings,
                      size_t squarings_len)
 {
-    if (WRONG(15))
-        row &= 255, block &= 65535;
-    int64_t bad = bad_quote(f, p, c, row, block, squarings, squarings_len);
-    if (bad != 0)
-        return bad;
-    const range terms = ticket_range(f, p, c, row, block);
-    return quote_range(&terms, squarings);
-}
-
-static int64_t quote_half(const formula *f, uint64_t p, uint64_t c, uint64_t row, uint64_t block, uint8_t *squarings,
-                          size_t squarings_len, int upper)
-{
-    if (WRONG(15))
-        row &= 255, block &= 65535;
-    int64_t bad = bad_quote(f, p, c, row, block, squarings, squarings_len);
-    if (bad != 0)
-        return bad;
-    if (WRONG(269) || WRONG(270))
-        upper = WRONG(269);
-    const range terms = WRONG(268) ? ticket_range(f, p, c, row, block) : half_range(f, p, c, row, block, upper);
-    return quote_range(&terms, squarings);
+    return quote_part(f, p, c, row, block, squarings, squarings_len, WHOLE);
 }
 
 static int64_t quote_lower(const formula *f, uint64_t p, uint64_t c, uint64_t row, uint64_t block, uint8_t *squarings,
                            size_t squarings_len)
 {
-    return quote_half(f, p, c, row, block, squarings, squarings_len, 0);
+    return quote_part(f, p, c, row, block, squarings, squarings_len, LOWER);
 }
 
 static int64_t quote_upper(const formula *f, uint64_t p, uint64_t c, uint64_t row, uint64_t block, uint8_t *squarings,
                            size_t squarings_len)
 {
-    return quote_half(f, p, c, row, block, squarings, squarings_len, 1);
+    return quote_part(f, p, c, row, block, squarings, squarings_len, UPPER);
 }
 
 /* The ledger: 16 bytes of head, a sum of 16 bytes for each row, marks of 32 bytes for each row. */
