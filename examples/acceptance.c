@@ -118,6 +118,7 @@ static void open_run(struct run *run, const struct kind *kind, uint64_t p, uint6
     run_finished(run, "open", kind->open(p, c, run->ledger, kind->ledger_size));
 }
 
+/* Counts a ticket and what it is quoted at. */
 static void add_ticket(const struct run *run, struct tally *tally, uint64_t row, uint64_t block)
 {
     uint8_t squarings[BBP_SQUARINGS_SIZE];

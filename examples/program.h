@@ -1,4 +1,4 @@
-/* What the programs over bbp.h share: numbers in arguments, in bytes and in decimal, sums, refusals in words, the end of the output. */
+/* What the programs over bbp.h share: numbers in arguments, bytes and decimal, sums, refusals in words, the end of the output. */
 #ifndef PROGRAM_H
 #define PROGRAM_H
 

@@ -211,9 +211,9 @@ int64_t bbp_check_work_upper(uint64_t p, uint64_t c, uint64_t row, uint64_t bloc
  * quote is at most 62 times the number of terms. Answer 0, or refusal 1
  * (squarings_len not 16), 2 or 4, as the working calls do.
  *
- * Neighbouring terms take the same number of squarings, and a quote counts them
- * together: it takes microseconds at any position, also where no machine could
- * work the ticket.
+ * Terms that take the same number of squarings stand next to each other, and a
+ * quote counts them together: it takes microseconds at any position, also where
+ * no machine could work the ticket.
  */
 int64_t bbp_quote(uint64_t p, uint64_t c, uint64_t row, uint64_t block, uint8_t *squarings, size_t squarings_len);
 int64_t bbp_check_quote(uint64_t p, uint64_t c, uint64_t row, uint64_t block, uint8_t *squarings, size_t squarings_len);

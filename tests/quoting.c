@@ -98,7 +98,7 @@ static void count_edge(int s)
     met_at[s].last_below += last == edge - 1;
 }
 
-/* Of a row with about (4n + 130) / step terms, E is about 2^s + 64 at the place `at` out of 2c: where a block starts, or is cut. */
+/* A position at which E is about 2^s + 64 at the place `at` of 2c in a row: there a block starts, or is cut. */
 static uint64_t position_of_edge(int s, uint64_t c, uint64_t at)
 {
     ref_u128 first = (((ref_u128)1 << s) + 64) * 2 * c / (2 * c - at);

@@ -16,8 +16,8 @@ static void blocks_add_up(uint64_t p, uint64_t c)
         ref_u128 squarings = 0;
         for (uint64_t block = 0; block < c; block++)
             squarings += quote_of(p, c, row, block);
-        CHECK(squarings == quote_of(p, 1, row, 0), "p %" PRIu64 " row %" PRIu64 ": %" PRIu64 " blocks do not add up to the row", p,
-              row, c);
+        CHECK(squarings == quote_of(p, 1, row, 0), "p %" PRIu64 " row %" PRIu64 ": %" PRIu64 " blocks do not add up to the row",
+              p, row, c);
     }
 }
 

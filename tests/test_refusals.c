@@ -135,7 +135,10 @@ static int64_t call_close(const struct example *x)
     return CALL(close)(lend_input(0, ledger, x->ledger.len), x->ledger.len, lend(1, digits, 32), 32);
 }
 
-/* Each call has its bit, by its place; WORK has those of working and quoting. A call that marked tickets refuse has the one that marks them. */
+/*
+ * Each call has its bit, by its place; those of WORK are for working and
+ * quoting. A call that marked tickets refuse has the one that marks them.
+ */
 static const struct call {
     const char *name;
     int64_t (*make)(const struct example *x);
