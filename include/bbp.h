@@ -192,7 +192,7 @@ int64_t bbp_check_work(uint64_t p, uint64_t c, uint64_t row, uint64_t block, uin
  * These calls go on cutting in two until they come to single terms. The stack
  * that they need grows with the logarithm of the number of terms, which
  * matters to a caller that starts threads with small stacks: it is greatest at
- * the largest position with c = 1, and stays below 12,000 bytes there.
+ * the largest position with c = 1, and stays below 16,000 bytes there.
  */
 int64_t bbp_work_lower(uint64_t p, uint64_t c, uint64_t row, uint64_t block, uint8_t *sum, size_t sum_len,
                        uint8_t *squarings, size_t squarings_len);

@@ -4,5 +4,6 @@ pub mod ByLengths
 pub mod FewRows
 pub mod Numbers
 pub mod RangeSums
+pub mod RangeSquarings
 pub mod Sides
 pub mod Table

@@ -33,13 +33,15 @@ ofLength F p r first end b = cutAt F p r first end b - cutAt F p r first end (b 
 unfoldable pub byLengths : Formula → ℕ → Row → ℕ → ℕ → ℕ
 byLengths F p r first end = sum (λ b. b * ofLength F p r first end b) 6 57
 
--- The law, for every formula, row and range in which no E - 64 has more than 63 bits: the two sums are the same, and no term takes more than 62.
+-- no E - 64 has more than 63 bits
+abbrev pub Short : ℕ → Row → Type 0
+Short p r = rise p r < 64 + 2 ^ 63
+
+-- The law, for every formula in which E falls, every row and every range, where no E - 64 has more than 63 bits: the two sums are the same, and no
+-- term takes more than 62.
 pub record SameSquarings (F : Formula) (p : ℕ) (r : Row) : Type 0 where
   pub by-lengths : (first end : ℕ) → first ≤ end → byLengths F p r first end ≡ rangeSquarings F p r first (end - first)
   pub at-most : (first count : ℕ) → rangeSquarings F p r first count ≤ 62 * count
-
-abbrev pub Short : ℕ → Row → Type 0
-Short p r = rise p r < 64 + 2 ^ 63
 
 abbrev pub SquaringsAgree : Type 0
 SquaringsAgree = (F : Formula) (p : ℕ) (r : Row) → 0 < F .step → Short p r → SameSquarings F p r

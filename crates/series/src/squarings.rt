@@ -3,7 +3,7 @@ use crate::Series;
 use crate::terms::Numbers;
 use words::Wide;
 ghost use mathlib.Core.Path.{_≡_};
-ghost use Prim.Native.Nat.{ℕ, _+_, _-_, _^_, _≤_, _<_};
+ghost use Prim.Native.Nat.{ℕ, _+_, _-_, _≤_, _<_};
 ghost use Rattle.words.specs.Words.{joined};
 ghost use Rattle.series.specs.Series.{Formula, Row, rowCount, rowAt, termCount};
 ghost use Rattle.series.specs.Squarings.{cutAt, rangeSquarings};

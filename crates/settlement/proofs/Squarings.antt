@@ -3,14 +3,14 @@
 -- Assumes nothing.
 use mathlib.Core.Path.{_≡_, refl, sym, ap, ap₂, _∙_}
 use mathlib.Core.Bool.{Bool, true, false, _&&_}
-use mathlib.Core.Logic.{_⊎_, inl, inr, ⊎-elim}
+use mathlib.Core.Logic.{_⊎_, ⊎-elim}
 use mathlib.Core.List.{List}
-use Prim.Native.Nat.{ℕ, _+_, _*_, _-_, _/_, _^_, _≤_, _<_}
+use Prim.Native.Nat.{ℕ, _+_, _*_, _-_, _^_, _≤_, _<_}
 use native.Mathlib.Nat.{div-le-self, lt-trans}
 use native.Mathlib.Omega.{arith}
 use borrow.Author.Tests.{eq-eqb, ne-eqb}
 use lib.Dec.{eqb, lit<}
-use lib.IntN.{pos, negsuc, negℤ}
+use lib.IntN.{pos, negℤ}
 use lib.ListN.{length}
 use Rattle.algebra.specs.Bits.{bitsIn, bitLength}
 use Rattle.algebra.specs.Sum.{sum}
@@ -18,7 +18,7 @@ use Rattle.algebra.proofs.Sums.{sum-split}
 use Rattle.words.specs.Bytes.{valueOf}
 use Rattle.words.proofs.Bytes.{value-bytes}
 use Rattle.series.specs.Series.{Formula, rowAt, termCount, skipped, modulus}
-use Rattle.series.specs.Squarings.{squarings, rangeSquarings, reaching, cutAt, ofLength, byLengths, Short, SameSquarings}
+use Rattle.series.specs.Squarings.{squarings, rangeSquarings, reaching, cutAt, ofLength, byLengths, SameSquarings}
 use Rattle.series.specs.Bellard.{bellard}
 use Rattle.series.specs.Check.{check}
 use Rattle.series.specs.Names.{formulaOf}
@@ -33,12 +33,12 @@ use Rattle.run.specs.Run.{limitsOf, inRange, isTicket, bound}
 use Rattle.run.specs.Refusal.{refusal}
 use Rattle.run.proofs.Answering.{changed, kept, refused}
 use Rattle.run.proofs.Range.{range-of, ticket-row, ticket-block}
-use Rattle.ticket.specs.Parts.{cut, partFirst, partEnd, partCount, partSquarings}
+use Rattle.ticket.specs.Parts.{partFirst, partEnd, partCount, partSquarings}
 use Rattle.ticket.specs.Work.{bothSized, partRefusal, partAnswer, written, workRefusal, workAnswer, workBytes, workSquarings, quoteRefusal, quoteAnswer, quoteSquarings}
 use Rattle.ticket.specs.declared.Part.{Part}
 use Rattle.ticket.specs.declared.Part.the-variants.{Whole, Lower, Upper}
 use Rattle.ticket.proofs.Parts.{ordered, meet}
-use Rattle.settlement.specs.Squarings.{Countable, Squarings, SquaringFigure, SquaringsAre, AllSquaringsAre, squaringFigures, checkSquaringFigures}
+use Rattle.settlement.specs.Squarings.{Countable, Squarings, SquaringsAre, AllSquaringsAre, squaringFigures, checkSquaringFigures}
 use Rattle.settlement.proofs.Halves.{taken}
 
 module _ (F : Formula) (near : F .last < 2 ^ 64) (c : Countable F) (p C row block : ℕ) where

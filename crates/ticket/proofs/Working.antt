@@ -40,7 +40,7 @@ module _ (F : Formula) (p C row block : ℕ) (sized : Bool) where
       unfolding partAnswer partRefusal refusal
       no-ticket t = refused _ _ _ (let e : partRefusal F p C row block sized ≡ 4 = rw (s, r, t) refl in e)
 
-      pub none-refuses : isTicket (limitsOf F) C row block ≡ true → partRefusal F p C row block sized ≡ 0
+      none-refuses : isTicket (limitsOf F) C row block ≡ true → partRefusal F p C row block sized ≡ 0
       unfolding partRefusal refusal
       none-refuses t = rw (s, r, t) refl
 
@@ -65,7 +65,7 @@ module _ (F : Formula) (p C row block : ℕ) (sized : Bool) where
       unfolding partAnswer
       none-refused = was-finished a v (partRefusal F p C row block sized) 0 f e .0
 
-      pub none-applied : (sized ≡ true) × (inRange (limitsOf F) p C ≡ true) × (isTicket (limitsOf F) C row block ≡ true)
+      none-applied : (sized ≡ true) × (inRange (limitsOf F) p C ≡ true) × (isTicket (limitsOf F) C row block ≡ true)
       none-applied = all-passed none-refused
 
       answered : pos v ≡ partAnswer F p C row block sized

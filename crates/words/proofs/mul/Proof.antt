@@ -1,7 +1,7 @@
 -- `words::mul` meets its contract: the two words are the quotient and the remainder of the product.
 -- Assumes nothing.
 use mathlib.Core.Path.{_≡_}
-use Prim.Native.Nat.{ℕ, _+_, _*_, _/_, _%_, _^_}
+use Prim.Native.Nat.{ℕ, _*_, _/_, _%_, _^_}
 use native.Mathlib.Nat.{div-add-mod'}
 use borrow.Author.Needs.{needs}
 use Rattle.words.specs.Words.{joined}

@@ -13,7 +13,7 @@ use Rattle.series.specs.Series.{modulus}
 use Rattle.series.specs.declared.terms.Worked.{Worked}
 use Rattle.series.proofs.Numbers.{fewer}
 use Rattle.series.proofs.ByHalves.{halved}
-use Rattle.series.proofs.ByLengths.{halved-count}
+use Rattle.series.proofs.RangeSquarings.{halved-count}
 use Rattle.series.proofs.halves.one_or_none.Reads as one-or-none-reads
 use Rattle.series.proofs.halves.by_halves.Reads as by-halves
 use Rattle.series.proofs.halves.by_halves.Kinds as by-halves-kinds

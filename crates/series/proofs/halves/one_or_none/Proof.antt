@@ -9,7 +9,7 @@ use Rattle.series.specs.Series.{rangeSum}
 use Rattle.series.proofs.Numbers.{fewer}
 use Rattle.series.proofs.RangeSums.{empty}
 use Rattle.series.proofs.ByHalves.{as-it-is, negated}
-use Rattle.series.proofs.ByLengths.{none-yet, one-alone}
+use Rattle.series.proofs.RangeSquarings.{none-yet, one-alone}
 use Rattle.series.proofs.halves.one_or_none.Statement.{statement}
 use Rattle.series.proofs.halves.one_or_none.Tie as tie
 

@@ -9,7 +9,7 @@ use Rattle.series.specs.Names.{formulaOf}
 use Rattle.series.specs.Fitting.{Workable}
 use Rattle.series.specs.declared.terms.Numbers.{Numbers}
 use Rattle.series.proofs.Numbers.{workable, short, count-small}
-use Rattle.series.proofs.ByLengths.{exact}
+use Rattle.series.proofs.RangeSquarings.{exact}
 use Rattle.series.proofs.Table.{fitting}
 use Rattle.series.proofs.halves.range_sum.Statement.{statement}
 use Rattle.series.proofs.halves.range_sum.Tie as tie

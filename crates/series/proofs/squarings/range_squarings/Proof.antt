@@ -9,14 +9,15 @@ use Rattle.algebra.specs.Sum.{sum}
 use Rattle.algebra.proofs.Sums.{sum-none, range-next}
 use Rattle.words.specs.Words.{joined}
 use Rattle.words.proofs.Joined.{joined-zero}
-use Rattle.series.specs.Series.{Formula, Row, modulus, rowAt, termCount}
-use Rattle.series.specs.Squarings.{cutAt, ofLength, byLengths, rangeSquarings}
+use Rattle.series.specs.Series.{Formula, Row, modulus, rowAt}
+use Rattle.series.specs.Squarings.{cutAt, ofLength, byLengths}
 use Rattle.series.specs.Names.{formulaOf, numbersOf}
 use Rattle.series.specs.declared.terms.Numbers.{Numbers}
 use Rattle.series.specs.declared.Series.{Series}
 use Rattle.series.proofs.Numbers.{step-positive, short, count-small}
 use Rattle.series.proofs.Table.{fitting}
-use Rattle.series.proofs.ByLengths.{falling, by-lengths, exact}
+use Rattle.series.proofs.RangeSquarings.{exact}
+use Rattle.series.proofs.ByLengths.{falling, by-lengths}
 use Rattle.series.proofs.squarings.range_squarings.Statement.{statement}
 use Rattle.series.proofs.squarings.range_squarings.Tie as tie
 

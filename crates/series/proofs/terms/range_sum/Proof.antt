@@ -17,7 +17,7 @@ use Rattle.series.specs.declared.terms.Numbers.{Numbers}
 use Rattle.series.proofs.Numbers.{workable, short, count-small}
 use Rattle.series.proofs.Table.{fitting}
 use Rattle.series.proofs.RangeSums.{none, added, subtracted}
-use Rattle.series.proofs.ByLengths.{none-yet, one-more, exact}
+use Rattle.series.proofs.RangeSquarings.{none-yet, one-more, exact}
 use Rattle.series.proofs.terms.range_sum.Statement.{statement}
 use Rattle.series.proofs.terms.range_sum.Tie as tie
 

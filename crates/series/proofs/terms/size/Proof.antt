@@ -1,7 +1,7 @@
 -- `series::terms::size` meets its contract: one law of the size for E below 0 and one for the others, one of the squarings for E below 128 and one
 -- for the others.
 -- Assumes nothing.
-use mathlib.Core.Path.{_≡_, refl, subst}
+use mathlib.Core.Path.{_≡_, refl, sym, subst}
 use Prim.Native.Nat.{ℕ, _+_, _*_, _-_, _/_, _%_, _^_, _≤_, _<_}
 use native.Mathlib.Omega.{arith}
 use borrow.Author.Tests.{le-leb, lt-leb}
@@ -11,6 +11,7 @@ use Rattle.series.specs.Series.{Formula, Row, rise, fall, modulus, size}
 use Rattle.series.specs.Squarings.{squarings}
 use Rattle.series.specs.Names.{numbersOf}
 use Rattle.series.specs.declared.terms.Numbers.{Numbers}
+use Rattle.series.proofs.RangeSquarings.{none}
 use Rattle.series.proofs.terms.size.Statement.{statement}
 use Rattle.series.proofs.terms.size.Tie as tie
 
@@ -27,11 +28,8 @@ module _ (n : Numbers) (k : ℕ) (F : Formula) (p : ℕ) (r : Row) (e : n ≡ nu
       let l = subst (λ (x : Numbers). x .step * k ≤ x .rise) e h in
       rw (le-leb (fall F k) (rise p r) l) (subst (λ (x : Numbers). q ≡ 2 ^ (x .rise - x .step * k) / (x .m * k + x .j) % modulus) e d)
 
-  none : n .rise < n .step * k + 128 → 0 ≡ squarings F p r k
-  unfolding squarings
-  none h =
-      let l = subst (λ (x : Numbers). x .rise < x .step * k + 128) e h in
-      rw (lt-leb (fall F k + 128) (rise p r) l) refl
+  uncounted : n .rise < n .step * k + 128 → 0 ≡ squarings F p r k
+  uncounted h = sym (none F p r k (subst (λ (x : Numbers). x .rise < x .step * k + 128) e h))
 
   counted : (q : ℕ) → n .step * k + 128 ≤ n .rise → q ≡ bitLength (n .rise - n .step * k - 64) - 1 → q ≡ squarings F p r k
   unfolding squarings
@@ -51,7 +49,7 @@ mul-fall c =
     record { fits = omega (arith, s .pre .fall-fits (s .args .k) (before-next (s .args .k))) }
 
 returns : tie.Need-returns
-returns c F p r e = (negative _ _ F p r e (c .if1 .taken), none _ _ F p r e (omega (arith, c .if1 .taken)))
+returns c F p r e = (negative _ _ F p r e (c .if1 .taken), uncounted _ _ F p r e (omega (arith, c .if1 .taken)))
 
 mul-n : tie.Need-mul-n
 mul-n c =
@@ -76,7 +74,7 @@ quotient-of-power-requires c κs =
 returns-2 : tie.Need-returns-2
 returns-2 c F p r e =
     let other = c .before .before .before .before .before in
-    (some _ _ F p r e _ (other .if1 .left) (c .plain-quotient .ensures), none _ _ F p r e (omega arith))
+    (some _ _ F p r e _ (other .if1 .left) (c .plain-quotient .ensures), uncounted _ _ F p r e (omega arith))
 
 returns-3 : tie.Need-returns-3
 returns-3 c F p r e =
