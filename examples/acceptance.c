@@ -67,7 +67,8 @@
  *
  * with ` differs` at its end where the two differ; the status is then 3, and 0
  * where no row shown differs. Rows are shown in ascending order. The quote of
- * these tickets and what they made are said on standard error, as of a run.
+ * these tickets and what they made are said on standard error, as of a run, and
+ * where the two differ the program ends with status 1 before a row is shown.
  *
  * A refusal or a failure ends with status 1, arguments that are not these with 2.
  */

@@ -12,14 +12,13 @@
 
 typedef int64_t work_call(uint64_t p, uint64_t c, uint64_t row, uint64_t block, uint8_t *sum, size_t sum_len,
                           uint8_t *squarings, size_t squarings_len);
-typedef int64_t quote_call(uint64_t p, uint64_t c, uint64_t row, uint64_t block, uint8_t *squarings, size_t squarings_len);
 
 struct kind {
     const char *word, *suffix; /* before its calls and its closing line; after the name of its file */
     uint64_t last_position, rows;
     size_t ledger_size, marks_at;
     work_call *work, *work_lower, *work_upper;
-    quote_call *quote, *quote_lower, *quote_upper;
+    int64_t (*quote)(uint64_t p, uint64_t c, uint64_t row, uint64_t block, uint8_t *squarings, size_t squarings_len);
     int64_t (*open)(uint64_t p, uint64_t c, uint8_t *ledger, size_t ledger_len);
     int64_t (*post)(uint8_t *ledger, size_t ledger_len, uint64_t p, uint64_t c, uint64_t row, uint64_t block,
                     const uint8_t *sum, size_t sum_len);
@@ -34,8 +33,8 @@ struct kind {
 
 #define KIND(word, suffix, calls, numbers, look)                                                                 \
     {word, suffix, numbers##MAX_POSITION, numbers##ROWS, numbers##LEDGER_SIZE, numbers##ROW_MARKS_AT(0), calls##work, \
-     calls##work_lower, calls##work_upper, calls##quote, calls##quote_lower, calls##quote_upper, calls##open,        \
-     calls##post, calls##sheet_write, calls##sheet_read, calls##sheet_post, look, calls##close}
+     calls##work_lower, calls##work_upper, calls##quote, calls##open, calls##post, calls##sheet_write,            \
+     calls##sheet_read, calls##sheet_post, look, calls##close}
 
 enum { BELLARD, CHECK, KINDS };
 static const struct kind kinds[KINDS] = {KIND("", "", bbp_, BBP_, bbp_look),

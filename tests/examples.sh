@@ -396,6 +396,11 @@ billed_wrong() {
     rest="quoted in 24 tickets worked; $supplied quoted in 4 tickets of sheets"
     check_rows wrong_bill bbp_check_work "squarings[0] += $one" --check "$line" 'check ' \
         "check squarings: $((quoted + 1)) made, $quoted $rest"
+    "$acceptance" --keep "$ledger" 1000 7 >/dev/null 2>&1
+    wrapped billed examples/acceptance.c 'static int64_t given;' \
+        "$(instead bbp_work "(given = $(call bbp_work), squarings[0] += $one, given)")"
+    prints 1 '' "$scratch/billed" --rows "$ledger"
+    same "what --rows says of other squarings" "$said" "squarings: not those that were quoted"
 }
 
 # bar_parts - the parts that the bars of `said` show.

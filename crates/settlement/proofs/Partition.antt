@@ -1,7 +1,7 @@
 -- The blocks of a row hold each of the terms 0 to K - 1 exactly once, so that the tickets' sums add up to the sum of all sizes.
 -- Assumes nothing.
 use mathlib.Core.Path.{_≡_, refl, sym, ap, _∙_, subst}
-use mathlib.Core.Bool.{Bool, true, false}
+use mathlib.Core.Bool.{Bool, true, false, cond}
 use mathlib.Core.Logic.{_⊎_, inl, inr, ⊎-elim}
 use Prim.Native.Nat.{ℕ, zero, suc, _+_, _*_, _-_, _/_, _%_, _≤_, _<_}
 use native.Mathlib.Nat.{zero-add, zero-mul, zero-div, mul-div-right, mod-add-div, mod-lt}
@@ -14,9 +14,10 @@ use lib.Pow.{pow-pos}
 use Rattle.algebra.specs.Sum.{sum}
 use Rattle.algebra.specs.Whole.{residue}
 use Rattle.algebra.proofs.Booleans.{below-or}
+use Rattle.algebra.proofs.Sums.{sum-split}
 use Rattle.algebra.proofs.Integers.{diff-sub, residue-is, residue-lt, same-residue, turns, back}
-use Rattle.series.specs.Series.{Row, Formula, Side, plus, minus, modulus, row, rowAt, rowCount, termCount, size, rowSum, sideSum, rangeSum, sizesSum}
-use Rattle.series.proofs.Sides.{row-split, by-number}
+use Rattle.series.specs.Series.{Row, Formula, Side, plus, minus, modulus, row, rowAt, rowCount, termCount, size, onSide, rowSum, sideSum, rangeSum, sizesSum}
+use Rattle.series.proofs.Sides.{by-number}
 use Rattle.run.specs.Run.{bound, ticketSum}
 use Rattle.run.proofs.Blocks.{bound-grows}
 use Rattle.settlement.specs.Settlement.{allSums}
@@ -71,22 +72,23 @@ block-unique K C i j k c h l =
     either q = ⊎-elim (λ m. inl m) (λ e. inr (sym e)) (below-or j i (omega arith))
 
 -- the blocks of a row, one after the other
-module _ (F : Formula) (side : Side) (r : Row) (v : ℕ → ℕ) (b : ℕ → ℕ) (first : b 0 ≡ 0) (mono : (i : ℕ) → b i ≤ b (i + 1)) where
-  telescope : (C : ℕ) → sum (λ i. rowSum F side r v (b i) (b (i + 1) - b i)) 0 C ≡ rowSum F side r v 0 (b C)
+module _ (f : ℕ → ℕ) (b : ℕ → ℕ) (first : b 0 ≡ 0) (mono : (i : ℕ) → b i ≤ b (i + 1)) where
+  telescope : (C : ℕ) → sum (λ i. sum f (b i) (b (i + 1) - b i)) 0 C ≡ sum f 0 (b C)
   unfolding sum
-  telescope zero = sym (ap (rowSum F side r v 0) first ∙ none)
-    where
-      none : rowSum F side r v 0 0 ≡ 0
-      none = let e = row-split F side r v 0 0 0 in omega (arith, e)
+  telescope zero = sym (ap (sum f 0) first)
   telescope (suc C) =
       let m = mono C in
       let e : b C + (b (C + 1) - b C) ≡ b (suc C) = (let e₁ : b (C + 1) ≡ b (suc C) = ap b (add-one C) in omega (arith, e₁)) in
-      let cut = row-split F side r v 0 (b C) (b (C + 1) - b C) in
-      let z = ap (λ (n : ℕ). rowSum F side r v n (b (C + 1) - b C)) (zero-add (b C)) in
-      let y = ap (λ (n : ℕ). rowSum F side r v (b n) (b (n + 1) - b n)) (zero-add C) in
+      let cut = sum-split f 0 (b C) (b (C + 1) - b C) in
+      let z = ap (λ (n : ℕ). sum f n (b (C + 1) - b C)) (zero-add (b C)) in
+      let y = ap (λ (n : ℕ). sum f (b n) (b (n + 1) - b n)) (zero-add C) in
       let h = telescope C in
-      let f = ap (rowSum F side r v 0) e in
-      omega (arith, cut, z, y, h, f)
+      let g = ap (sum f 0) e in
+      omega (arith, cut, z, y, h, g)
+
+pub all-blocks : (f : ℕ → ℕ) (K C : ℕ) → 0 < C → sum (λ i. sum f (bound K C i) (bound K C (i + 1) - bound K C i)) 0 C ≡ sum f 0 K
+all-blocks f K C h =
+    telescope f (bound K C) (bound-zero K C) (λ i. bound-grows K C i (i + 1) h (omega arith)) C ∙ ap (sum f 0) (bound-all K C h)
 
 -- equations between sums, from one for each number
 sum-eq : (m : ℕ) (f g h a b : ℕ → ℕ) → ((i : ℕ) → f i + m * a i ≡ g i + h i + m * b i)
@@ -120,10 +122,8 @@ module _ (F : Formula) (p C : ℕ) (h : 0 < C) where
   sums r i = residue modulus (subℕ (part plus r i) (part minus r i))
 
   whole-row : (side : Side) (r : Row) → sum (part side r) 0 C ≡ rowSum F side r (size F p r) 0 (termCount F p)
-  unfolding part
-  whole-row side r =
-      telescope F side r (size F p r) (bound (termCount F p) C) (bound-zero (termCount F p) C) (λ i. bound-grows (termCount F p) C i (i + 1) h (omega arith)) C
-      ∙ ap (rowSum F side r (size F p r) 0) (bound-all (termCount F p) C h)
+  unfolding part rowSum
+  whole-row side r = all-blocks (λ k. cond (onSide F side r k) (size F p r k) 0) (termCount F p) C h
 
   row-eq : (r : Row) → rowSum F plus r (size F p r) 0 (termCount F p) + modulus * sum (over r) 0 C
       ≡ rowSum F minus r (size F p r) 0 (termCount F p) + sum (sums r) 0 C + modulus * sum (under r) 0 C

@@ -26,7 +26,7 @@ every-formula F asked = record {
   demand3 = demand3 F (asked .fits .near) (asked .positive) (asked .rest);
   facts = facts F (asked .fits .near);
   looks = looks-hold F (asked .fits .near);
-  squarings = squarings-hold F (asked .fits .near) (asked .countable);
+  squarings = squarings-hold F (asked .fits .near);
   as-before = as-before F (asked .fits .near);
   no-wider = no-wider F;
   filled = λ p C. filled-exists F p C;
@@ -38,7 +38,7 @@ fits f = let h = few-rows f in record { few = omega (arith, h); near = near-posi
 
 -- what is asked of a formula, by the name that the code has for it
 pub asked : (f : Series) → Asked (formulaOf f)
-asked f = record { fits = fits f; positive = positive f; rest = rest f; countable = countable f }
+asked f = record { fits = fits f; positive = positive f; rest = rest f }
 
 pub runs : Runs
 runs = record {
@@ -46,4 +46,6 @@ runs = record {
   check-asked = asked Check;
   bellard-runs = every-formula _ (asked Bellard);
   check-runs = every-formula _ (asked Check);
+  bellard-squarings = every-formula _ (asked Bellard) .squarings (countable Bellard);
+  check-squarings = every-formula _ (asked Check) .squarings (countable Check);
 }

@@ -5,7 +5,7 @@ use mathlib.Core.Path.{_≡_, refl, sym, ap, ap₂, _∙_}
 use mathlib.Core.Bool.{Bool, true, false, _&&_}
 use mathlib.Core.Logic.{_⊎_, ⊎-elim}
 use mathlib.Core.List.{List}
-use Prim.Native.Nat.{ℕ, _+_, _*_, _-_, _^_, _≤_, _<_}
+use Prim.Native.Nat.{ℕ, _+_, _*_, _^_, _≤_, _<_}
 use native.Mathlib.Nat.{div-le-self, lt-trans}
 use native.Mathlib.Omega.{arith}
 use borrow.Author.Tests.{eq-eqb, ne-eqb}
@@ -40,6 +40,7 @@ use Rattle.ticket.specs.declared.Part.the-variants.{Whole, Lower, Upper}
 use Rattle.ticket.proofs.Parts.{ordered, meet}
 use Rattle.settlement.specs.Squarings.{Countable, Squarings, SquaringsAre, AllSquaringsAre, squaringFigures, checkSquaringFigures}
 use Rattle.settlement.proofs.Halves.{taken}
+use Rattle.settlement.proofs.Partition.{all-blocks}
 
 module _ (F : Formula) (near : F .last < 2 ^ 64) (c : Countable F) (p C row block : ℕ) where
   module _ (r : inRange (limitsOf F) p C ≡ true) (t : isTicket (limitsOf F) C row block ≡ true) where
@@ -117,12 +118,18 @@ module _ (F : Formula) (part : Part) (p C row block : ℕ) (out count : List ℕ
     ap (λ (b : Bool). written (partRefusal F p C row block b) (partSquarings F part p C row block) count) (one-size h),
   )
 
+blocks : (F : Formula) (p C row : ℕ) → inRange (limitsOf F) p C ≡ true
+    → sum (partSquarings F Whole p C row) 0 C ≡ rangeSquarings F p (rowAt F row) 0 (termCount F p)
+unfolding partSquarings rangeSquarings partFirst partEnd
+blocks F p C row r = all-blocks (squarings F p (rowAt F row)) (termCount F p) C (range-of _ p C r .C-low)
+
 pub squarings-hold : (F : Formula) → F .last < 2 ^ 64 → Countable F → Squarings F
 squarings-hold F near c = record {
   counted = λ part p C row block out count. counted F near c p C row block part out count;
   wrong-size = λ part p C row block out count. wrong-size F part p C row block out count;
   at-most = λ part p C row block r t. at-most F near c p C row block r t part;
   halves = λ p C row block r t. halves F near c p C row block r t;
+  blocks = blocks F;
   quoted = λ part p C row block out count. quoted F part p C row block out count;
   by-lengths = λ part p C row block r t. by-lengths F near c p C row block r t part;
 }

@@ -19,23 +19,22 @@ use Rattle.settlement.specs.Looks.{Looks}
 use Rattle.settlement.specs.Squarings.{Countable, Squarings}
 
 -- What is asked: rows fit a byte and positions 8 bytes, every N is at least 1, and the exact terms that are not charged, together with all from
--- K on, at every length add up to less than one unit on each side; and what counting squarings asks.
+-- K on, at every length add up to less than one unit on each side.
 pub record Asked (F : Formula) : Type 0 where
   pub fits : Fits F
   pub positive : Positive F
   pub rest : (p : ℕ) → RestBelowUnit isCharged F p (termCount F p)
-  pub countable : Countable F
 
 -- What is promised: the three demands; the smallest number that applies, a sheet as its tickets one by one, too many tickets refused by 3 or
--- 4, the halves of a ticket; looks that equal posts onto a copy; squarings handed back and quoted; digits as from a ledger with one total; no digit
--- lost since every term was charged; and that what demand 3 supposes can be had.
+-- 4, the halves of a ticket; looks that equal posts onto a copy; squarings handed back and quoted, where E falls and stays short; digits as from a
+-- ledger with one total; no digit lost since every term was charged; and that what demand 3 supposes can be had.
 pub record Promised (F : Formula) : Type 0 where
   pub demand1 : Demand1 F
   pub demand2 : Demand2 F
   pub demand3 : Demand3 F
   pub facts : Facts F
   pub looks : Looks F
-  pub squarings : Squarings F
+  pub squarings : Countable F → Squarings F
   pub as-before : AsBefore F
   pub no-wider : NoWider F
   -- a list of posts that fills the run, and a D above 0 that makes the exact terms whole, at every length
@@ -52,3 +51,5 @@ pub record Runs : Type 0 where
   pub check-asked : Asked check
   pub bellard-runs : Promised bellard
   pub check-runs : Promised check
+  pub bellard-squarings : Squarings bellard
+  pub check-squarings : Squarings check

@@ -7,16 +7,17 @@ use mathlib.Core.List.{List, [], _∷_}
 use Prim.Native.Nat.{ℕ, _+_, _*_, _^_, _≤_, _<_}
 use lib.IntN.{pos, negℤ}
 use lib.ListN.{length}
+use Rattle.algebra.specs.Sum.{sum}
 use Rattle.words.specs.Bytes.{valueOf}
-use Rattle.series.specs.Series.{Formula, rowCount, rowAt}
-use Rattle.series.specs.Squarings.{squarings, byLengths, Short}
+use Rattle.series.specs.Series.{Formula, rowCount, rowAt, termCount}
+use Rattle.series.specs.Squarings.{squarings, rangeSquarings, byLengths, Short}
 use Rattle.run.specs.Run.{limitsOf, inRange, isTicket}
 use Rattle.ticket.specs.Parts.{partFirst, partEnd, partCount, partSquarings}
 use Rattle.ticket.specs.Work.{workAnswer, workBytes, workSquarings, quoteAnswer, quoteSquarings}
 use Rattle.ticket.specs.declared.Part.{Part}
 use Rattle.ticket.specs.declared.Part.the-variants.{Whole, Lower, Upper}
 
--- What counting asks of a formula: E falls from each term to the next, and no E - 64 of its runs has more than 63 bits.
+-- What the promises about squarings ask of a formula: E falls from each term to the next, and no E - 64 of its runs has more than 63 bits.
 pub record Countable (F : Formula) : Type 0 where
   pub falls : 0 < F .step
   pub short : (p row : ℕ) → p ≤ F .last → row < rowCount F → Short p (rowAt F row)
@@ -34,6 +35,9 @@ pub record Squarings (F : Formula) : Type 0 where
       → partSquarings F part p C row block ≤ 62 * partCount F part p C block
   pub halves : (p C row block : ℕ) → inRange (limitsOf F) p C ≡ true → isTicket (limitsOf F) C row block ≡ true
       → partSquarings F Lower p C row block + partSquarings F Upper p C row block ≡ partSquarings F Whole p C row block
+  -- so do all blocks of a row, however many: they take what the row's terms take
+  pub blocks : (p C row : ℕ) → inRange (limitsOf F) p C ≡ true
+      → sum (partSquarings F Whole p C row) 0 C ≡ rangeSquarings F p (rowAt F row) 0 (termCount F p)
   -- a quote is refused as working is that has 16 bytes for the sum, and gives the same figure
   pub quoted : (part : Part) (p C row block : ℕ) (out count : List ℕ) → length out ≡ 16
       → (quoteAnswer F p C row block count ≡ workAnswer F p C row block out count)

@@ -25,7 +25,7 @@ partRefusal F p C row block sized = refusal (partTests F p C row block sized)
 unfoldable pub partAnswer : Formula → ℕ → ℕ → ℕ → ℕ → Bool → ℤ
 partAnswer F p C row block sized = answer (partRefusal F p C row block sized) 0
 
--- the bytes of a slice, where nothing is refused those of x
+-- what a call leaves of a slice: 16 bytes of x where nothing is refused, else what was there
 abbrev pub written : ℕ → ℕ → List ℕ → List ℕ
 written number x s = cond (eqb number 0) (bytesOf 16 x) s
 

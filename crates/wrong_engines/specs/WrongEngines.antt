@@ -1,6 +1,6 @@
 -- The wrong engines that document 01 names under "Traps of this arithmetic" and "For those who test", where no edit of the code can be
--- them, wrong totals of the row sums, wrong halves of a ticket, wrong rules of charging, and wrong counts of squarings: each is written down by what it answers or leaves, and
--- `ShutOut` says that the engine is none of them. Nothing of the engine rests on these definitions.
+-- them, wrong totals of the row sums, wrong halves of a ticket, wrong rules of charging, and wrong counts of squarings: each is written down by
+-- what it answers or leaves, and `ShutOut` says that the engine is none of them. Nothing of the engine rests on these definitions.
 use mathlib.Core.Path.{_≡_}
 use mathlib.Core.Bool.{Bool, true, not, cond, _||_}
 use mathlib.Core.List.{List, [], _∷_, _++_, foldl}
