@@ -17,7 +17,7 @@ use Rattle.series.proofs.RangeSums.{range-sum-lt}
 use Rattle.run.specs.Refusal.{refusal, answer}
 use Rattle.run.specs.Run.{limitsOf, inRange, isTicket, ticketSum}
 use Rattle.run.proofs.Answering.{changed}
-use Rattle.ticket.specs.Work.{bothSized, partRefusal, partAnswer, workRefusal, workAnswer, workBytes}
+use Rattle.ticket.specs.Work.{isSized, bothSized, partRefusal, partAnswer, workRefusal, workAnswer, workBytes}
 use Rattle.ticket.proofs.Parts.{whole-sum}
 use Rattle.sheet.specs.RoundTrip.{Fits}
 use Rattle.sheet.proofs.RoundTrip.{written-reads-back, accepted-is-written}
@@ -44,7 +44,7 @@ module _ (F : Formula) (p C row block : ℕ) where
 
   not-refused : (out squarings : List ℕ) → length out ≡ 16 → length squarings ≡ 16 → inRange (limitsOf F) p C ≡ true
       → isTicket (limitsOf F) C row block ≡ true → workRefusal F p C row block out squarings ≡ 0
-  unfolding workRefusal partRefusal bothSized refusal
+  unfolding workRefusal partRefusal bothSized isSized refusal
   not-refused out squarings l m r t = rw (l, m, r, t) refl
 
   worked : (out squarings : List ℕ) → length out ≡ 16 → length squarings ≡ 16 → inRange (limitsOf F) p C ≡ true

@@ -34,7 +34,7 @@ use Rattle.run.specs.Refusal.{refusal}
 use Rattle.run.proofs.Answering.{changed, kept, refused}
 use Rattle.run.proofs.Range.{range-of, ticket-row, ticket-block}
 use Rattle.ticket.specs.Parts.{partFirst, partEnd, partCount, partSquarings}
-use Rattle.ticket.specs.Work.{bothSized, partRefusal, partAnswer, written, workRefusal, workAnswer, workBytes, workSquarings, quoteRefusal, quoteAnswer, quoteSquarings}
+use Rattle.ticket.specs.Work.{isSized, bothSized, partRefusal, partAnswer, written, workRefusal, workAnswer, workBytes, workSquarings, quoteRefusal, quoteAnswer, quoteSquarings}
 use Rattle.ticket.specs.declared.Part.{Part}
 use Rattle.ticket.specs.declared.Part.the-variants.{Whole, Lower, Upper}
 use Rattle.ticket.proofs.Parts.{ordered, meet}
@@ -87,7 +87,7 @@ module _ (F : Formula) (near : F .last < 2 ^ 64) (c : Countable F) (p C row bloc
 module _ (F : Formula) (part : Part) (p C row block : ℕ) (out count : List ℕ) where
   -- one of the two sizes is wrong
   unsized : (length out ≡ 16 → ⊥) ⊎ (length count ≡ 16 → ⊥) → bothSized out count ≡ false
-  unfolding bothSized
+  unfolding bothSized isSized
   unsized h = ⊎-elim (λ f. rw (ne-eqb (length out) 16 f) refl) (λ f. rw (ne-eqb (length count) 16 f) (and-false (eqb (length out) 16))) h
     where
       and-false : (b : Bool) → (b && false) ≡ false
@@ -106,8 +106,8 @@ module _ (F : Formula) (part : Part) (p C row block : ℕ) (out count : List ℕ
       (sym (refused _ _ 0 e), sym (kept _ _ _ out e), sym (kept _ _ _ count e))
 
   -- a quote has the tests of working but for the sum's size
-  one-size : length out ≡ 16 → eqb (length count) 16 ≡ bothSized out count
-  unfolding bothSized
+  one-size : length out ≡ 16 → isSized count ≡ bothSized out count
+  unfolding bothSized isSized
   one-size h = rw (eq-eqb (length out) 16 h) refl
 
   quoted : length out ≡ 16 → (quoteAnswer F p C row block count ≡ workAnswer F p C row block out count)

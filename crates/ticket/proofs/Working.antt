@@ -5,7 +5,6 @@ use mathlib.Core.Bool.{Bool, true, false}
 use mathlib.Core.List.{List, _++_}
 use Prim.Native.Nat.{ℕ, _+_}
 use borrow.Author.Tests.{not-false, eqb-true}
-use lib.Dec.{eqb}
 use lib.IntN.{pos, negsuc}
 use lib.ListN.{length, take, drop}
 use Rattle.algebra.proofs.Booleans.{and-left, and-right}
@@ -21,7 +20,7 @@ use Rattle.run.specs.declared.Answer.the-variants.{Finished, Refused}
 use Rattle.run.proofs.Answering.{passes, refused, finished, changed, was-finished, was-refused}
 use Rattle.ticket.specs.Parts.{partSum, partSquarings}
 use Rattle.ticket.specs.declared.Part.{Part}
-use Rattle.ticket.specs.Work.{bothSized, partRefusal, partAnswer, written, workRefusal, workAnswer, workBytes, workSquarings, quoteRefusal, quoteAnswer, quoteSquarings}
+use Rattle.ticket.specs.Work.{isSized, bothSized, partRefusal, partAnswer, written, workRefusal, workAnswer, workBytes, workSquarings, quoteRefusal, quoteAnswer, quoteSquarings}
 
 module _ (F : Formula) (p C row block : ℕ) (sized : Bool) where
   -- ---- the tests one by one
@@ -84,6 +83,10 @@ module _ (F : Formula) (p C row block : ℕ) (sized : Bool) where
       unfolding partAnswer
       left x s = was-refused a n (partRefusal F p C row block sized) 0 (bytesOf 16 x) s f e
 
+has-size : (s : List ℕ) → isSized s ≡ true → length s ≡ 16
+unfolding isSized
+has-size s e = eqb-true (length s) 16 e
+
 -- ---- working
 
 module _ (F : Formula) (p C row block : ℕ) (out squarings : List ℕ) (b : Bool) (s : b ≡ bothSized out squarings)
@@ -95,12 +98,8 @@ module _ (F : Formula) (p C row block : ℕ) (out squarings : List ℕ) (b : Boo
       × (inRange (limitsOf F) p C ≡ true) × (isTicket (limitsOf F) C row block ≡ true)
   unfolding bothSized
   to-work v f =
-      let t = none-applied F p C row block (bothSized out squarings) a tested v f in (
-        eqb-true _ _ (and-left (eqb (length out) 16) _ (t .0)),
-        eqb-true _ _ (and-right (eqb (length out) 16) _ (t .0)),
-        t .1,
-        t .2,
-      )
+      let t = none-applied F p C row block (bothSized out squarings) a tested v f in
+      (has-size out (and-left (isSized out) _ (t .0)), has-size squarings (and-right (isSized out) _ (t .0)), t .1, t .2)
 
   pub worked : (part : Part) (v : ℕ) → a ≡ Finished v → (x y : ℕ) (out₁ squarings₁ : List ℕ)
       → (x ≡ partSum F part p C row block) × (y ≡ partSquarings F part p C row block)
@@ -133,23 +132,26 @@ module _ (F : Formula) (p C row block : ℕ) (out squarings : List ℕ) (b : Boo
 
 -- ---- quoting
 
-module _ (F : Formula) (p C row block : ℕ) (out : List ℕ) (a : Answer) (e : answerOf a ≡ partAnswer F p C row block (eqb (length out) 16)) where
+module _ (F : Formula) (p C row block : ℕ) (out : List ℕ) (b : Bool) (s : b ≡ isSized out) (a : Answer) (e : answerOf a ≡ partAnswer F p C row block b) where
+  asked : answerOf a ≡ partAnswer F p C row block (isSized out)
+  asked = e ∙ ap (partAnswer F p C row block) s
+
   pub to-quote : (v : ℕ) → a ≡ Finished v → (length out ≡ 16) × (inRange (limitsOf F) p C ≡ true) × (isTicket (limitsOf F) C row block ≡ true)
   to-quote v f =
-      let t = none-applied F p C row block (eqb (length out) 16) a e v f in
-      (eqb-true _ _ (t .0), t .1, t .2)
+      let t = none-applied F p C row block (isSized out) a asked v f in
+      (has-size out (t .0), t .1, t .2)
 
   pub quoted : (part : Part) (v : ℕ) → a ≡ Finished v → (x : ℕ) (out₁ : List ℕ) → x ≡ partSquarings F part p C row block
       → out₁ ≡ take 0 out ++ bytesOf 16 x ++ drop (0 + 16) out
       → (pos v ≡ quoteAnswer F p C row block out) × (out₁ ≡ quoteSquarings F part p C row block out)
   unfolding quoteRefusal quoteAnswer quoteSquarings
   quoted part v f x out₁ q w =
-      let t = eqb (length out) 16 in
-      (answered F p C row block t a e v f, wrote F p C row block t a e v f x (partSquarings F part p C row block) out out₁ (to-quote v f .0) q w)
+      let t = isSized out in
+      (answered F p C row block t a asked v f, wrote F p C row block t a asked v f x (partSquarings F part p C row block) out out₁ (to-quote v f .0) q w)
 
   pub not-quoted : (part : Part) (n : Refusal) → a ≡ Refused n
       → (answerOf (Refused n) ≡ quoteAnswer F p C row block out) × (out ≡ quoteSquarings F part p C row block out)
   unfolding quoteRefusal quoteAnswer quoteSquarings
   not-quoted part n f =
-      let t = eqb (length out) 16 in
-      (turned-away F p C row block t a e n f, left F p C row block t a e n f (partSquarings F part p C row block) out)
+      let t = isSized out in
+      (turned-away F p C row block t a asked n f, left F p C row block t a asked n f (partSquarings F part p C row block) out)

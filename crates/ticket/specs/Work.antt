@@ -14,7 +14,11 @@ use Rattle.run.specs.Run.{limitsOf, inRange, isTicket}
 use Rattle.ticket.specs.Parts.{partSum, partSquarings}
 use Rattle.ticket.specs.declared.Part.{Part}
 
--- the tests of both, where `sized` says that each slice lent has its size
+-- a slice for a sum or for squarings has its size
+unfoldable pub isSized : List ℕ → Bool
+isSized s = eqb (length s) 16
+
+-- the tests of working and of quoting, where `sized` says that each slice lent has its size
 abbrev pub partTests : Formula → ℕ → ℕ → ℕ → ℕ → Bool → List Test
 partTests F p C row block sized =
     (1 ⇐ not sized) ∷ (2 ⇐ not (inRange (limitsOf F) p C)) ∷ (4 ⇐ not (isTicket (limitsOf F) C row block)) ∷ []
@@ -32,7 +36,7 @@ written number x s = cond (eqb number 0) (bytesOf 16 x) s
 -- ---- working
 
 unfoldable pub bothSized : List ℕ → List ℕ → Bool
-bothSized out squarings = eqb (length out) 16 && eqb (length squarings) 16
+bothSized out squarings = isSized out && isSized squarings
 
 abbrev pub workTests : Formula → ℕ → ℕ → ℕ → ℕ → List ℕ → List ℕ → List Test
 workTests F p C row block out squarings = partTests F p C row block (bothSized out squarings)
@@ -53,13 +57,13 @@ workSquarings F part p C row block out squarings =
 -- ---- quotes
 
 abbrev pub quoteTests : Formula → ℕ → ℕ → ℕ → ℕ → List ℕ → List Test
-quoteTests F p C row block squarings = partTests F p C row block (eqb (length squarings) 16)
+quoteTests F p C row block squarings = partTests F p C row block (isSized squarings)
 
 unfoldable pub quoteRefusal : Formula → ℕ → ℕ → ℕ → ℕ → List ℕ → ℕ
-quoteRefusal F p C row block squarings = partRefusal F p C row block (eqb (length squarings) 16)
+quoteRefusal F p C row block squarings = partRefusal F p C row block (isSized squarings)
 
 unfoldable pub quoteAnswer : Formula → ℕ → ℕ → ℕ → ℕ → List ℕ → ℤ
-quoteAnswer F p C row block squarings = partAnswer F p C row block (eqb (length squarings) 16)
+quoteAnswer F p C row block squarings = partAnswer F p C row block (isSized squarings)
 
 unfoldable pub quoteSquarings : Formula → Part → ℕ → ℕ → ℕ → ℕ → List ℕ → List ℕ
 quoteSquarings F part p C row block squarings = written (quoteRefusal F p C row block squarings) (partSquarings F part p C row block) squarings

@@ -13,7 +13,7 @@ ghost use Rattle.run.specs.Run.{limitsOf, inRange, isTicket};
 ghost use Rattle.run.specs.Run as definition;
 ghost use Rattle.run.specs.Answers.{answerOf};
 ghost use Rattle.ticket.specs.Parts.{partFirst, partEnd, partSum, partSquarings};
-ghost use Rattle.ticket.specs.Work.{bothSized, partAnswer, workAnswer, workBytes, workSquarings, quoteAnswer, quoteSquarings};
+ghost use Rattle.ticket.specs.Work.{isSized, bothSized, partAnswer, workAnswer, workBytes, workSquarings, quoteAnswer, quoteSquarings};
 
 // Which of a ticket's terms are worked: all of them, or those below or from the cut on.
 pub enum Part {
@@ -90,14 +90,21 @@ pub fn test_part(f: Series, p: u64, c: u64, row: u64, block: u64, sized: bool) -
     Answer::Finished(0)
 }
 
-// Whether the slices for a sum and for its squarings have 16 bytes each.
-pub fn sized(out: &[u8], squarings: &[u8]) -> bool
+// Whether a slice for a sum or for squarings has its size.
+pub fn sized(s: &[u8]) -> bool
+    ensures { λ r. ⌜ r ≡ isSized (now (s .entry)) ⌝ }
+{
+    s.len() == 16
+}
+
+// Whether both slices of working have theirs.
+pub fn both_sized(out: &[u8], squarings: &[u8]) -> bool
     ensures { λ r. ⌜ r ≡ bothSized (now (out .entry)) (now (squarings .entry)) ⌝ }
 {
-    if out.len() != 16 {
+    if !sized(out) {
         return false;
     }
-    squarings.len() == 16
+    sized(squarings)
 }
 
 // Works a part of a ticket: writes its sum and its squarings into 16 bytes each. All tests are done before a byte is written.
@@ -115,7 +122,7 @@ pub fn work(
     ensures leaves { λ _. ⌜ now (out .exit) ≡ workBytes (formulaOf f) part p c row block (now (out .entry)) (now (squarings .entry)) ⌝ }
     ensures counts { λ _. ⌜ now (squarings .exit) ≡ workSquarings (formulaOf f) part p c row block (now (out .entry)) (now (squarings .entry)) ⌝ }
 {
-    match test_part(f, p, c, row, block, sized(out, squarings)) {
+    match test_part(f, p, c, row, block, both_sized(out, squarings)) {
         Answer::Finished(value) => {
             let worked = sum(f, part, p, c, row, block);
             words::put_wide(out, 0, worked.sum);
@@ -131,7 +138,7 @@ pub fn quote(f: Series, part: Part, p: u64, c: u64, row: u64, block: u64, out: &
     ensures answers { λ r. ⌜ answerOf r ≡ quoteAnswer (formulaOf f) p c row block (now (out .entry)) ⌝ }
     ensures leaves { λ _. ⌜ now (out .exit) ≡ quoteSquarings (formulaOf f) part p c row block (now (out .entry)) ⌝ }
 {
-    match test_part(f, p, c, row, block, out.len() == 16) {
+    match test_part(f, p, c, row, block, sized(out)) {
         Answer::Finished(value) => {
             words::put_wide(out, 0, squarings(f, part, p, c, row, block));
             Answer::Finished(value)

@@ -30,7 +30,7 @@ use Rattle.run.specs.Refusal.{_⇐_, refusal, answer}
 use Rattle.run.proofs.Answering as answering
 use Rattle.run.specs.Run.{inRange, isTicket, bound, ticketSum}
 use Rattle.ticket.specs.Parts.{cut, partFirst, partEnd, partSum, partSquarings}
-use Rattle.ticket.specs.Work.{bothSized, partRefusal, workRefusal, workBytes, workSquarings}
+use Rattle.ticket.specs.Work.{isSized, bothSized, partRefusal, workRefusal, workBytes, workSquarings}
 use Rattle.ticket.specs.declared.Part.the-variants.{Whole, Lower, Upper}
 use Rattle.ledger.specs.Ledger.{fresh, enter, mark, addTo, rowSumIn, totalOf, viewOf, posIn, blocksIn, totalIn, bitIn, markIn, inOrder}
 use Rattle.ledger.specs.Plain.{Plain, opened, plainView, encode, fullPlain}
@@ -268,7 +268,7 @@ wrong-rules = (
 -- ---- tickets: row 0 and row 1 at p = 1 have sums with other top bytes
 
 one-sum : (w : List ℕ) → WorksAs Whole (oneSum w) → ⊥
-unfolding workBytes workRefusal partRefusal bothSized refusal inRange isTicket partSum partFirst partEnd rangeSum bound size termCount rowSum sum onSide isAdded residue bytesOf
+unfolding workBytes workRefusal partRefusal bothSized isSized refusal inRange isTicket partSum partFirst partEnd rangeSum bound size termCount rowSum sum onSide isAdded residue bytesOf
 one-sum w same =
     let a = same 1 1 0 0 (replicate 16 0) (replicate 16 0) refl refl refl refl in
     let b = same 1 1 1 0 (replicate 16 0) (replicate 16 0) refl refl refl refl in
@@ -278,25 +278,25 @@ one-sum w same =
 -- ---- halves: those of row 0 at p = 1, C = 1, whose fourteen terms are cut at term 7; the byte that differs is named
 
 cut-in-both : WorksAs Lower cutInBoth → ⊥
-unfolding cutInBoth workBytes workRefusal partRefusal bothSized refusal inRange isTicket partSum partFirst partEnd cut rangeSum bound size termCount rowSum sum onSide isAdded residue bytesOf
+unfolding cutInBoth workBytes workRefusal partRefusal bothSized isSized refusal inRange isTicket partSum partFirst partEnd cut rangeSum bound size termCount rowSum sum onSide isAdded residue bytesOf
 cut-in-both same =
     let z : _≡_ {A = ℕ} 231 249 = ap (λ (l : List ℕ). getD l 6 0) (same 1 1 0 0 (replicate 16 0) (replicate 16 0) refl refl refl refl) in
     omega (arith, z)
 
 cut-in-neither : WorksAs Upper cutInNeither → ⊥
-unfolding cutInNeither workBytes workRefusal partRefusal bothSized refusal inRange isTicket partSum partFirst partEnd cut rangeSum bound size termCount rowSum sum onSide isAdded residue bytesOf
+unfolding cutInNeither workBytes workRefusal partRefusal bothSized isSized refusal inRange isTicket partSum partFirst partEnd cut rangeSum bound size termCount rowSum sum onSide isAdded residue bytesOf
 cut-in-neither same =
     let z : _≡_ {A = ℕ} 0 255 = ap (λ (l : List ℕ). getD l 15 0) (same 1 1 0 0 (replicate 16 0) (replicate 16 0) refl refl refl refl) in
     omega (arith, z)
 
 one-half-twice : WorksAs Upper (workBytes bellard Lower) → ⊥
-unfolding workBytes workRefusal partRefusal bothSized refusal inRange isTicket partSum partFirst partEnd cut rangeSum bound size termCount rowSum sum onSide isAdded residue bytesOf
+unfolding workBytes workRefusal partRefusal bothSized isSized refusal inRange isTicket partSum partFirst partEnd cut rangeSum bound size termCount rowSum sum onSide isAdded residue bytesOf
 one-half-twice same =
     let z : _≡_ {A = ℕ} 0 128 = ap (λ (l : List ℕ). getD l 15 0) (same 1 1 0 0 (replicate 16 0) (replicate 16 0) refl refl refl refl) in
     omega (arith, z)
 
 own-signs : WorksAs Upper ownSigns → ⊥
-unfolding ownSigns workBytes workRefusal partRefusal bothSized refusal inRange isTicket partSum partFirst partEnd cut rangeSum bound size termCount rowSum sum onSide isAdded residue bytesOf
+unfolding ownSigns workBytes workRefusal partRefusal bothSized isSized refusal inRange isTicket partSum partFirst partEnd cut rangeSum bound size termCount rowSum sum onSide isAdded residue bytesOf
 own-signs same =
     let z : _≡_ {A = ℕ} 0 255 = ap (λ (l : List ℕ). getD l 15 0) (same 1 1 0 0 (replicate 16 0) (replicate 16 0) refl refl refl refl) in
     omega (arith, z)
@@ -305,7 +305,7 @@ own-signs same =
 
 -- working that is not refused leaves their bytes
 left-squarings : CountsAs (partSquarings bellard Whole)
-unfolding workSquarings workRefusal partRefusal bothSized refusal
+unfolding workSquarings workRefusal partRefusal bothSized isSized refusal
 left-squarings p C row block out count l m r t = rw (l, m, r, t) refl
 
 counted-rightly : (p C row block : ℕ) → partSquarings bellard Whole p C row block ≡ countedBy 128 rightOf p C row block

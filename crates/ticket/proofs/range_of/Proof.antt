@@ -1,22 +1,25 @@
 -- `ticket::range_of` meets its contract: the bounds are the block's, and the cut is half of their sum.
 -- Assumes nothing.
 use mathlib.Core.Path.{_≡_, ap, ap₂, _∙_}
-use Prim.Native.Nat.{ℕ, _+_, _/_}
+use Prim.Native.Nat.{ℕ, _+_, _/_, _≤_}
 use native.Mathlib.Omega.{arith}
 use borrow.Author.Needs.{needs}
 use Rattle.series.specs.Series.{Formula, termCount}
 use Rattle.series.specs.Names.{formulaOf}
 use Rattle.series.proofs.Numbers.{count-small}
 use Rattle.run.specs.Run.{bound}
+use Rattle.run.proofs.Blocks.{bound-le}
 use Rattle.run.proofs.Positions.{position}
 use Rattle.run.proofs.Range.{range-of}
 use Rattle.ticket.specs.Parts.{cut, partFirst, partEnd}
 use Rattle.ticket.specs.declared.Part.{Part}
 use Rattle.ticket.specs.declared.Part.the-variants.{Whole, Lower, Upper}
 use Rattle.ticket.proofs.Bounding.{bounded}
-use Rattle.ticket.proofs.Parts.{rising, within}
 use Rattle.ticket.proofs.range_of.Statement.{statement}
 use Rattle.ticket.proofs.range_of.Tie as tie
+
+below : (K C i x : ℕ) → x ≡ bound K C i → i ≤ C → x ≤ K
+below K C i x e h = rw e (bound-le K C i h)
 
 module _ (F : Formula) (part : Part) (p C block K first end : ℕ) (k : K ≡ termCount F p) (a : first ≡ bound K C block) (b : end ≡ bound K C (block + 1)) where
   at-first : first ≡ bound (termCount F p) C block
@@ -61,11 +64,9 @@ add-cut : tie.Need-add-cut
 add-cut c =
     let s = c .before .before .before in
     let k = c .before .before .term-count .ensures in
-    let at = at-first (formulaOf (s .args .f)) (s .args .part) _ _ _ _ _ _ k (c .before .bound .ensures) (c .bound2 .ensures) in
-    let to = at-end (formulaOf (s .args .f)) (s .args .part) _ _ _ _ _ _ k (c .before .bound .ensures) (c .bound2 .ensures) in
-    let l = rising (formulaOf (s .args .f)) _ _ _ (s .pre .0) (s .pre .1) in
-    let u = within (formulaOf (s .args .f)) _ _ _ (s .pre .0) (s .pre .1) in
-    record { fits = omega (arith, at, to, l, u, count-small (s .args .f) _ (position _ _ _ (s .pre .0))) }
+    let a = below _ _ _ _ (c .before .bound .ensures) (omega (arith, s .pre .1)) in
+    let b = below _ _ _ _ (c .bound2 .ensures) (omega (arith, s .pre .1)) in
+    record { fits = omega (arith, a, b, k, count-small (s .args .f) _ (position _ _ _ (s .pre .0))) }
 
 enum-told : tie.Need-enum-told
 enum-told c = search needs

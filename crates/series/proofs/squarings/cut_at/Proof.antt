@@ -5,7 +5,7 @@ use Prim.Native.Nat.{ℕ, _+_, _*_, _%_, _^_, _≤_, _<_}
 use native.Mathlib.Nat.{mod-eq-of-lt, one-mul}
 use native.Mathlib.Omega.{arith}
 use borrow.Author.Needs.{needs}
-use lib.Pow.{pow-lt, pow-mono}
+use lib.Pow.{pow-lt, pow-mono, pow-pos}
 use Rattle.series.specs.Series.{Formula, Row}
 use Rattle.series.specs.Squarings.{reaching, cutAt}
 use Rattle.series.proofs.squarings.cut_at.Statement.{statement}
@@ -37,7 +37,7 @@ add-reaching : tie.Need-add-reaching
 add-reaching c = record { fits = rw (shifted _ (c .pre .2)) (omega (arith, pow-mono {i = c .args .b} {j = 63} (c .pre .2))) }
 
 reaching-requires : tie.Need-reaching-requires
-reaching-requires c κs = search needs
+reaching-requires c κs = (c .pre .0, rw (shifted _ (c .pre .2)) (omega (arith, pow-pos (c .args .b))))
 
 returns : tie.Need-returns
 returns c F p r n = let s = c .before .before in before F p r _ _ _ _ (s .pre .1) (s .pre .2) (c .before .reaching .ensures F p r n) (c .if1 .taken)
