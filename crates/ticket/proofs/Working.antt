@@ -17,7 +17,7 @@ use Rattle.run.specs.Answers.{answerOf}
 use Rattle.run.specs.declared.Refusal.{Refusal}
 use Rattle.run.specs.declared.Answer.{Answer}
 use Rattle.run.specs.declared.Answer.the-variants.{Finished, Refused}
-use Rattle.run.proofs.Answering.{passes, refused, finished, changed, was-finished, was-refused}
+use Rattle.run.proofs.Answering.{passes, refused, finished, was-finished, was-refused}
 use Rattle.ticket.specs.Parts.{partSum, partSquarings}
 use Rattle.ticket.specs.declared.Part.{Part}
 use Rattle.ticket.specs.Work.{isSized, bothSized, partRefusal, partAnswer, written, workRefusal, workAnswer, workBytes, workSquarings, quoteRefusal, quoteAnswer, quoteSquarings}
@@ -58,6 +58,9 @@ module _ (F : Formula) (p C row block : ℕ) (sized : Bool) where
       let ticket = passes 3 _ _ (range .1) in
       (not-false _ (size .0), not-false _ (range .0), not-false _ (ticket .0))
 
+  filled : (y : ℕ) (s : List ℕ) → partRefusal F p C row block sized ≡ 0 → bytesOf 16 y ≡ written (partRefusal F p C row block sized) y s
+  filled y s e = rw e refl
+
   module _ (a : Answer) (e : answerOf a ≡ partAnswer F p C row block sized) where
     module _ (v : ℕ) (f : a ≡ Finished v) where
       none-refused : partRefusal F p C row block sized ≡ 0
@@ -73,7 +76,7 @@ module _ (F : Formula) (p C row block : ℕ) (sized : Bool) where
       -- a slice written over
       wrote : (x y : ℕ) (s s₁ : List ℕ) → length s ≡ 16 → x ≡ y → s₁ ≡ take 0 s ++ bytesOf 16 x ++ drop (0 + 16) s
           → s₁ ≡ written (partRefusal F p C row block sized) y s
-      wrote x y s s₁ h q w = w ∙ over-all s 16 x h ∙ ap (bytesOf 16) q ∙ changed _ _ _ none-refused
+      wrote x y s s₁ h q w = w ∙ over-all s 16 x h ∙ ap (bytesOf 16) q ∙ filled y s none-refused
 
     module _ (n : Refusal) (f : a ≡ Refused n) where
       turned-away : answerOf (Refused n) ≡ partAnswer F p C row block sized
