@@ -5,7 +5,6 @@ use Prim.Native.Nat.{ℕ, _+_, _/_, _≤_}
 use native.Mathlib.Omega.{arith}
 use borrow.Author.Needs.{needs}
 use Rattle.series.specs.Series.{Formula, termCount}
-use Rattle.series.specs.Names.{formulaOf}
 use Rattle.series.proofs.Numbers.{count-small}
 use Rattle.run.specs.Run.{bound}
 use Rattle.run.proofs.Blocks.{bound-le}
