@@ -28,10 +28,12 @@ use Rattle.run.specs.Answers.{answerOf}
 use Rattle.run.specs.declared.Answer.{Answer}
 use Rattle.run.specs.declared.Answer.the-variants.{Finished, Refused}
 use Rattle.run.specs.declared.Refusal.{Refusal}
-use Rattle.run.proofs.Answering.{passes, skipped, refused, finished, changed, was-finished, was-refused}
+use Rattle.run.proofs.Answering.{passes, skipped, refused, finished, was-finished}
 use Rattle.ledger.specs.Ledger.{View, viewOf, ledgerSize, posIn, blocksIn, totalIn, bitIn, markIn, inOrder}
-use Rattle.closing.specs.Closing.{Ordered, lowOf, highOf, settledAt, digitsAt, closeRefusal, closingAnswer, closingBytes, closeAnswer, closeBytes}
+use Rattle.closing.specs.Closing.{Ordered, lowOf, highOf, settledAt, digitsAt, closeBy, closeCall}
 use Rattle.closing.proofs.TopDigits.{negative-none, sub-pos, sub-exact}
+use Rattle.run.specs.Call.{answered, refusedBy, Does}
+use Rattle.run.proofs.Calls.{works, turned-down}
 
 -- ---- what an ordered ledger says
 
@@ -57,38 +59,38 @@ bits-are-marks lim s =
 
 module _ (F : Formula) (s out : List ℕ) where
   abbrev number : ℕ
-  number = closeRefusal isCharged F (viewOf (limitsOf F) s) (totalIn (limitsOf F) s) out
+  number = refusedBy (closeCall F s out)
 
-  by-number : (n : ℕ) → number ≡ suc n → negsuc n ≡ closeAnswer F s out
-  unfolding closeAnswer closingAnswer
+  by-number : (n : ℕ) → number ≡ suc n → negsuc n ≡ answered (closeCall F s out)
+  unfolding closeBy answered
   by-number n e = refused number n _ e
 
-  pub ledger-size : (length s ≡ ledgerSize (limitsOf F) → ⊥) → negsuc 0 ≡ closeAnswer F s out
-  unfolding closeRefusal refusal viewOf
+  pub ledger-size : (length s ≡ ledgerSize (limitsOf F) → ⊥) → negsuc 0 ≡ answered (closeCall F s out)
+  unfolding closeBy refusedBy refusal viewOf
   ledger-size h = by-number 0 (rw (ne-eqb (length s) (ledgerSize (limitsOf F)) h) refl)
 
   module _ (sized : length s ≡ ledgerSize (limitsOf F)) where
-    pub digits-size : (length out ≡ 32 → ⊥) → negsuc 0 ≡ closeAnswer F s out
-    unfolding closeRefusal refusal viewOf
+    pub digits-size : (length out ≡ 32 → ⊥) → negsuc 0 ≡ answered (closeCall F s out)
+    unfolding closeBy refusedBy refusal viewOf
     digits-size h = by-number 0 (rw (eq-eqb (length s) (ledgerSize (limitsOf F)) sized, ne-eqb (length out) 32 h) refl)
 
     module _ (room : length out ≡ 32) where
-      pub out-of-order : inOrder (limitsOf F) s ≡ false → negsuc 4 ≡ closeAnswer F s out
-      unfolding closeRefusal refusal viewOf
+      pub out-of-order : inOrder (limitsOf F) s ≡ false → negsuc 4 ≡ answered (closeCall F s out)
+      unfolding closeBy refusedBy refusal viewOf
       out-of-order h = by-number 4 (rw (eq-eqb (length s) (ledgerSize (limitsOf F)) sized, eq-eqb (length out) 32 room, h) refl)
 
       module _ (order : inOrder (limitsOf F) s ≡ true) where
         abbrev full : Bool
         full = allBelow (rowCount F) (λ row. allBelow (blocksIn s) (λ block. bitIn (limitsOf F) s row block))
 
-        pub unmarked : full ≡ false → negsuc 7 ≡ closeAnswer F s out
-        unfolding closeRefusal refusal viewOf
+        pub unmarked : full ≡ false → negsuc 7 ≡ answered (closeCall F s out)
+        unfolding closeBy refusedBy refusal viewOf
         unmarked h =
             by-number 7
             (rw (eq-eqb (length s) (ledgerSize (limitsOf F)) sized, eq-eqb (length out) 32 room, order, ← bits-are-marks (limitsOf F) s, h) refl)
 
-        pub unsettled : full ≡ true → settledAt isCharged F (posIn s) (totalIn (limitsOf F) s) ≡ 0 → negsuc 8 ≡ closeAnswer F s out
-        unfolding closeRefusal refusal viewOf
+        pub unsettled : full ≡ true → settledAt isCharged F (posIn s) (totalIn (limitsOf F) s) ≡ 0 → negsuc 8 ≡ answered (closeCall F s out)
+        unfolding closeBy refusedBy refusal viewOf
         unsettled h d =
             by-number 8
             (rw (
@@ -101,8 +103,8 @@ module _ (F : Formula) (s out : List ℕ) where
             ) refl)
 
         pub closes : full ≡ true → (settledAt isCharged F (posIn s) (totalIn (limitsOf F) s) ≡ 0 → ⊥)
-            → pos (settledAt isCharged F (posIn s) (totalIn (limitsOf F) s)) ≡ closeAnswer F s out
-        unfolding closeAnswer closingAnswer closeRefusal refusal viewOf
+            → pos (settledAt isCharged F (posIn s) (totalIn (limitsOf F) s)) ≡ answered (closeCall F s out)
+        unfolding closeBy answered refusedBy refusal viewOf
         closes h d =
             finished number _
             (rw (
@@ -185,8 +187,8 @@ pub record Tested (F : Formula) (s out : List ℕ) : Type 0 where
   pub room : length out ≡ 32
   pub some : settledAt isCharged F (posIn s) (totalIn (limitsOf F) s) ≡ 0 → ⊥
 
-pub tested : (F : Formula) (s out : List ℕ) → closeRefusal isCharged F (viewOf (limitsOf F) s) (totalIn (limitsOf F) s) out ≡ 0 → Tested F s out
-unfolding closeRefusal viewOf
+pub tested : (F : Formula) (s out : List ℕ) → refusedBy (closeCall F s out) ≡ 0 → Tested F s out
+unfolding closeBy refusedBy viewOf
 tested F s out e =
     let e₁ = passes 0 _ _ e in
     let e₅ = passes 4 _ _ (e₁ .1) in
@@ -204,31 +206,36 @@ last-test : (c : Bool) → refusal ((9 ⇐ c) ∷ []) ≡ cond c 9 0
 unfolding refusal
 last-test c = refl
 
-pub nine-alone : (R S : Rule) (F : Formula) (v : View) (total other : ℕ) (out : List ℕ) → closeRefusal R F v total out ≡ 0
-    → closeRefusal S F v other out ≡ cond (eqb (settledAt S F (v .p) other) 0) 9 0
-unfolding closeRefusal
+pub nine-alone : (R S : Rule) (F : Formula) (v : View) (total other : ℕ) (out : List ℕ) → refusedBy (closeBy R F v total out) ≡ 0
+    → refusedBy (closeBy S F v other out) ≡ cond (eqb (settledAt S F (v .p) other) 0) 9 0
+unfolding closeBy refusedBy
 nine-alone R S F v total other out e =
     let e₁ = passes 0 _ _ e in
     let e₅ = passes 4 _ _ (e₁ .1) in
     let e₈ = passes 7 _ _ (e₅ .1) in
     skipped 1 _ _ (e₁ .0) ∙ skipped 5 _ _ (e₅ .0) ∙ skipped 8 _ _ (e₈ .0) ∙ last-test _
 
-pub was-closed : (F : Formula) (s out : List ℕ) (a : Answer) (d : ℕ) → answerOf a ≡ closeAnswer F s out → a ≡ Finished d
-    → (closeRefusal isCharged F (viewOf (limitsOf F) s) (totalIn (limitsOf F) s) out ≡ 0) × (d ≡ settledAt isCharged F (posIn s) (totalIn (limitsOf F) s))
-unfolding closeAnswer closingAnswer viewOf
+pub was-closed : (F : Formula) (s out : List ℕ) (a : Answer) (d : ℕ) → answerOf a ≡ answered (closeCall F s out) → a ≡ Finished d
+    → (refusedBy (closeCall F s out) ≡ 0) × (d ≡ settledAt isCharged F (posIn s) (totalIn (limitsOf F) s))
+unfolding closeBy answered viewOf
 was-closed F s out a d e f = was-finished a d _ _ f e
 
-pub not-closed : (F : Formula) (s out : List ℕ) (a : Answer) (r : Refusal) → answerOf a ≡ closeAnswer F s out → a ≡ Refused r
-    → out ≡ closeBytes F s out
-unfolding closeAnswer closingAnswer closeBytes closingBytes
-not-closed F s out a r e f = was-refused a r _ _ _ out f e
+pub not-closed : (F : Formula) (s out : List ℕ) (a : Answer) (r : Refusal) → answerOf a ≡ answered (closeCall F s out) → a ≡ Refused r
+    → Does (closeCall F s out) (answerOf (Refused r)) (out ∷ [])
+unfolding closeBy
+not-closed F s out a r e f = turned-down (closeCall F s out) a e r f
 
 -- ---- what is written
 
-pub digits-written : (F : Formula) (s out : List ℕ) (d x : ℕ) → closeRefusal isCharged F (viewOf (limitsOf F) s) (totalIn (limitsOf F) s) out ≡ 0 → d ≡ settledAt isCharged F (posIn s) (totalIn (limitsOf F) s)
-    → lowOf isCharged F (posIn s) (totalIn (limitsOf F) s) ≡ pos x → lowDigits d (pos (x / unitAt d)) ++ drop d out ≡ closeBytes F s out
-unfolding closeBytes closingBytes digitsAt viewOf
-digits-written F s out d x z e l =
-    ap (λ (w : ℤ). lowDigits d (quotient w (unitAt d)) ++ drop d out) (sym l)
-    ∙ ap (λ (k : ℕ). lowDigits k (quotient (lowOf isCharged F (posIn s) (totalIn (limitsOf F) s)) (unitAt k)) ++ drop k out) e
-    ∙ changed (closeRefusal isCharged F (viewOf (limitsOf F) s) (totalIn (limitsOf F) s) out) _ out z
+pub digits-written : (F : Formula) (s out : List ℕ) (a : Answer) (d : ℕ) → answerOf a ≡ answered (closeCall F s out) → a ≡ Finished d → (t : List ℕ) (x : ℕ)
+    → t ≡ lowDigits d (pos (x / unitAt d)) ++ drop d out → lowOf isCharged F (posIn s) (totalIn (limitsOf F) s) ≡ pos x
+    → Does (closeCall F s out) (pos d) (t ∷ [])
+unfolding closeBy digitsAt viewOf
+digits-written F s out a d e f t x et l =
+    let w = works (closeCall F s out) a e d f in (
+      w .0,
+      ap (λ (b : List ℕ). b ∷ []) (et
+          ∙ ap (λ (z : ℤ). lowDigits d (quotient z (unitAt d)) ++ drop d out) (sym l)
+          ∙ ap (λ (k : ℕ). lowDigits k (quotient (lowOf isCharged F (posIn s) (totalIn (limitsOf F) s)) (unitAt k)) ++ drop k out) (was-closed F s out a d e f .1))
+          ∙ w .1,
+    )

@@ -13,25 +13,24 @@ use Rattle.run.specs.Run.{limitsOf, inRange}
 use Rattle.ledger.specs.Ledger.{View, viewOf, totalIn, totalOf}
 use Rattle.ledger.specs.Plain.{Plain, plainView, encode, fullPlain}
 use Rattle.ledger.proofs.Image.{Good, view-encode, total-encode}
-use Rattle.closing.specs.Closing.{closingAnswer, closingBytes, closeAnswer, closeBytes}
+use Rattle.closing.specs.Closing.{closeBy, closeCall}
+use Rattle.run.specs.Call.{answered, bytesLeft}
 
 module _ (F : Formula) (s : Plain) (good : Good (limitsOf F) s) (out : List ℕ) where
   -- by whatever rule terms are charged
   module _ (R : Rule) where
-    pub answer-by : closingAnswer R F (viewOf (limitsOf F) (encode (limitsOf F) s)) (totalIn (limitsOf F) (encode (limitsOf F) s)) out
-        ≡ closingAnswer R F (plainView s) (totalOf (limitsOf F) (s .sums)) out
-    answer-by = ap₂ (λ (v : View) (t : ℕ). closingAnswer R F v t out) (view-encode (limitsOf F) s good) (total-encode (limitsOf F) s good)
+    pub answer-by : answered (closeBy R F (viewOf (limitsOf F) (encode (limitsOf F) s)) (totalIn (limitsOf F) (encode (limitsOf F) s)) out)
+        ≡ answered (closeBy R F (plainView s) (totalOf (limitsOf F) (s .sums)) out)
+    answer-by = ap₂ (λ (v : View) (t : ℕ). answered (closeBy R F v t out)) (view-encode (limitsOf F) s good) (total-encode (limitsOf F) s good)
 
-    pub bytes-by : closingBytes R F (viewOf (limitsOf F) (encode (limitsOf F) s)) (totalIn (limitsOf F) (encode (limitsOf F) s)) out
-        ≡ closingBytes R F (plainView s) (totalOf (limitsOf F) (s .sums)) out
-    bytes-by = ap₂ (λ (v : View) (t : ℕ). closingBytes R F v t out) (view-encode (limitsOf F) s good) (total-encode (limitsOf F) s good)
+    pub bytes-by : bytesLeft (closeBy R F (viewOf (limitsOf F) (encode (limitsOf F) s)) (totalIn (limitsOf F) (encode (limitsOf F) s)) out) 0
+        ≡ bytesLeft (closeBy R F (plainView s) (totalOf (limitsOf F) (s .sums)) out) 0
+    bytes-by = ap₂ (λ (v : View) (t : ℕ). bytesLeft (closeBy R F v t out) 0) (view-encode (limitsOf F) s good) (total-encode (limitsOf F) s good)
 
-  pub answer-encoded : closeAnswer F (encode (limitsOf F) s) out ≡ closingAnswer isCharged F (plainView s) (totalOf (limitsOf F) (s .sums)) out
-  unfolding closeAnswer
+  pub answer-encoded : answered (closeCall F (encode (limitsOf F) s) out) ≡ answered (closeBy isCharged F (plainView s) (totalOf (limitsOf F) (s .sums)) out)
   answer-encoded = answer-by isCharged
 
-  pub bytes-encoded : closeBytes F (encode (limitsOf F) s) out ≡ closingBytes isCharged F (plainView s) (totalOf (limitsOf F) (s .sums)) out
-  unfolding closeBytes
+  pub bytes-encoded : bytesLeft (closeCall F (encode (limitsOf F) s) out) 0 ≡ bytesLeft (closeBy isCharged F (plainView s) (totalOf (limitsOf F) (s .sums)) out) 0
   bytes-encoded = bytes-by isCharged
 
 -- a ledger with every ticket of p = 1, C = 1 marked is a plain ledger's, whatever its sums

@@ -1,7 +1,7 @@
 -- Closing a ledger: the refusals, the answer, and what the call leaves in the 32 bytes lent for the digits. Document 01, "Closing";
 -- document 02, slips 1 and 5.
-use mathlib.Core.Path.{_≡_}
-use mathlib.Core.Bool.{true, not, cond, _||_}
+use mathlib.Core.Path.{_≡_, refl}
+use mathlib.Core.Bool.{true, not, _||_}
 use mathlib.Core.List.{List, [], _∷_, _++_}
 use Prim.Native.Nat.{ℕ}
 use lib.Dec.{eqb}
@@ -12,7 +12,8 @@ use Rattle.algebra.specs.Test.{allBelow}
 use Rattle.series.specs.Series.{Formula, rowCount, termCount}
 use Rattle.interval.specs.Interval.{Rule, isCharged, low, high, unitAt}
 use Rattle.interval.specs.Digits.{settled, lowDigits}
-use Rattle.run.specs.Refusal.{Test, _⇐_, refusal, answer}
+use Rattle.run.specs.Refusal.{_⇐_}
+use Rattle.run.specs.Call.{Call, slice}
 use Rattle.run.specs.Run.{Limits, limitsOf}
 use Rattle.ledger.specs.Ledger.{View, viewOf, totalIn, inOrder, ledgerSize}
 
@@ -34,30 +35,23 @@ digitsAt R F p total d = lowDigits d (quotient (lowOf R F p total) (unitAt d))
 
 -- ---- by what is seen of the ledger, and by its total
 
-abbrev pub closeTests : Rule → Formula → View → ℕ → List ℕ → List Test
-closeTests R F v total digits =
-    (1 ⇐ not (v .sized) || not (eqb (length digits) 32)) ∷ (5 ⇐ not (v .ordered))
-    ∷ (8 ⇐ not (allBelow (rowCount F) (λ row. allBelow (v .C) (λ block. v .marked row block))))
-    ∷ (9 ⇐ eqb (settledAt R F (v .p) total) 0) ∷ []
-
-unfoldable pub closeRefusal : Rule → Formula → View → ℕ → List ℕ → ℕ
-closeRefusal R F v total digits = refusal (closeTests R F v total digits)
-
-unfoldable pub closingAnswer : Rule → Formula → View → ℕ → List ℕ → ℤ
-closingAnswer R F v total digits = answer (closeRefusal R F v total digits) (settledAt R F (v .p) total)
-
-unfoldable pub closingBytes : Rule → Formula → View → ℕ → List ℕ → List ℕ
-closingBytes R F v total digits =
+unfoldable pub closeBy : Rule → Formula → View → ℕ → List ℕ → Call
+closeBy R F v total digits =
     let d = settledAt R F (v .p) total in
-    cond (eqb (closeRefusal R F v total digits) 0) (digitsAt R F (v .p) total d ++ drop d digits) digits
+    record {
+      tests =
+          (1 ⇐ not (v .sized) || not (eqb (length digits) 32)) ∷ (5 ⇐ not (v .ordered))
+          ∷ (8 ⇐ not (allBelow (rowCount F) (λ row. allBelow (v .C) (λ block. v .marked row block))))
+          ∷ (9 ⇐ eqb d 0) ∷ [];
+      in-order = refl;
+      value = d;
+      slices = slice digits (digitsAt R F (v .p) total d ++ drop d digits) ∷ [];
+    }
 
 -- ---- the call: a ledger's bytes are closed by the total of their rows' sums and the rule in force
 
-unfoldable pub closeAnswer : Formula → List ℕ → List ℕ → ℤ
-closeAnswer F s digits = closingAnswer isCharged F (viewOf (limitsOf F) s) (totalIn (limitsOf F) s) digits
-
-unfoldable pub closeBytes : Formula → List ℕ → List ℕ → List ℕ
-closeBytes F s digits = closingBytes isCharged F (viewOf (limitsOf F) s) (totalIn (limitsOf F) s) digits
+abbrev pub closeCall : Formula → List ℕ → List ℕ → Call
+closeCall F s digits = closeBy isCharged F (viewOf (limitsOf F) s) (totalIn (limitsOf F) s) digits
 
 -- the ledger has its size and is in order: what closing has tested before it looks at the run
 pub record Ordered (lim : Limits) (s : List ℕ) : Type 0 where

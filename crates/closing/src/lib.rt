@@ -2,7 +2,7 @@
 pub mod charges;
 
 ghost use mathlib.Core.Path.{_≡_};
-ghost use mathlib.Core.List.{_++_};
+ghost use mathlib.Core.List.{[], _∷_, _++_};
 ghost use Prim.Native.Nat.{_+_, _/_, _%_, _^_, _<_, _≤_};
 ghost use lib.Dec.{ltb};
 ghost use lib.IntN.{pos, subℕ};
@@ -13,8 +13,9 @@ ghost use Rattle.series.specs.Names.{formulaOf};
 ghost use Rattle.series.specs.Series.{rowCount};
 ghost use Rattle.run.specs.Run.{limitsOf};
 ghost use Rattle.run.specs.Answers.{answerOf};
+ghost use Rattle.run.specs.Call.{Does, answered};
 ghost use Rattle.ledger.specs.Ledger.{ledgerSize, posIn, totalIn, bitIn};
-ghost use Rattle.closing.specs.Closing.{Ordered, lowOf, settledAt, closeAnswer, closeBytes};
+ghost use Rattle.closing.specs.Closing.{Ordered, lowOf, settledAt, closeCall};
 ghost use Rattle.interval.specs.Interval.{isCharged, unitAt};
 ghost use Rattle.interval.specs.Digits.{settled, hexDigit, lowDigits};
 use run::Answer;
@@ -161,7 +162,7 @@ pub fn lower_end(f: Series, ledger: &[u8]) -> Wide
 
 // What the refusal table says of a closing, its tests in the order of their numbers; or the number of digits.
 pub fn test_closing(f: Series, ledger: &[u8], digits: &[u8]) -> Answer
-    ensures { λ r. ⌜ answerOf r ≡ closeAnswer (formulaOf f) (now (ledger .entry)) (now (digits .entry)) ⌝ }
+    ensures { λ r. ⌜ answerOf r ≡ answered (closeCall (formulaOf f) (now (ledger .entry)) (now (digits .entry))) ⌝ }
 {
     if ledger.len() != ledger::ledger_size(f) {
         return Answer::Refused(Refusal::WrongSize);
@@ -185,8 +186,7 @@ pub fn test_closing(f: Series, ledger: &[u8], digits: &[u8]) -> Answer
 
 // Closes a ledger: writes the digits that it settles. All tests are done before a byte is written.
 pub fn close(f: Series, ledger: &[u8], digits: &mut [u8]) -> Answer
-    ensures answers { λ r. ⌜ answerOf r ≡ closeAnswer (formulaOf f) (now (ledger .entry)) (now (digits .entry)) ⌝ }
-    ensures leaves { λ _. ⌜ now (digits .exit) ≡ closeBytes (formulaOf f) (now (ledger .entry)) (now (digits .entry)) ⌝ }
+    ensures { λ r. ⌜ Does (closeCall (formulaOf f) (now (ledger .entry)) (now (digits .entry))) (answerOf r) (now (digits .exit) ∷ []) ⌝ }
 {
     match test_closing(f, ledger, digits) {
         Answer::Finished(d) => {

@@ -19,34 +19,35 @@ use Rattle.run.specs.Run.{limitsOf, isTicket}
 use Rattle.ledger.specs.Ledger.{totalOf, posIn}
 use Rattle.ledger.specs.Plain.{plainView, fullPlain, fullLedger}
 use Rattle.ledger.proofs.Image.{pos-encode}
-use Rattle.closing.specs.Closing.{settledAt, digitsAt, closeRefusal, closingAnswer, closingBytes, closeBytes}
+use Rattle.closing.specs.Closing.{settledAt, digitsAt, closeBy, closeCall}
 use Rattle.closing.proofs.Closing.{ledger-size}
 use Rattle.closing.proofs.Encoded.{good-full, answer-encoded, bytes-encoded}
 use Rattle.closing_line.specs.Decimal.{decimalWithin}
 use Rattle.closing_line.specs.Line.{finishedLine, refusedLine, lineOf, closingLine}
 use Rattle.closing_line.specs.Figures.{refusedOne, Figures}
+use Rattle.run.specs.Call.{answered, bytesLeft, refusedBy, allLeft}
 
 full-line : (sums : ℕ → ℕ) → ((row : ℕ) → sums row < modulus) → (total : ℕ) → totalOf (limitsOf bellard) sums ≡ total
     → closingLine bellard (fullLedger (limitsOf bellard) sums)
-    ≡ lineOf (closingAnswer isCharged bellard (plainView (fullPlain (limitsOf bellard) sums)) total (replicate 32 0)) 1
-    (closingBytes isCharged bellard (plainView (fullPlain (limitsOf bellard) sums)) total (replicate 32 0))
+    ≡ lineOf (answered (closeBy isCharged bellard (plainView (fullPlain (limitsOf bellard) sums)) total (replicate 32 0))) 1
+    (bytesLeft (closeBy isCharged bellard (plainView (fullPlain (limitsOf bellard) sums)) total (replicate 32 0)) 0)
 unfolding closingLine fullLedger
 full-line sums fit total e =
     let s = fullPlain (limitsOf bellard) sums in
     let good = good-full Bellard sums fit in
-    ap₂ (λ (a : ℤ) (n : ℕ). lineOf a n (closeBytes bellard (fullLedger (limitsOf bellard) sums) (replicate 32 0)))
+    ap₂ (λ (a : ℤ) (n : ℕ). lineOf a n (bytesLeft (closeCall bellard (fullLedger (limitsOf bellard) sums) (replicate 32 0)) 0))
     (answer-encoded bellard s good (replicate 32 0)) (pos-encode (limitsOf bellard) s good)
-    ∙ ap (lineOf (closingAnswer isCharged bellard (plainView s) (totalOf (limitsOf bellard) sums) (replicate 32 0)) 1) (bytes-encoded bellard s good (replicate 32 0))
-    ∙ ap (λ (t : ℕ). lineOf (closingAnswer isCharged bellard (plainView s) t (replicate 32 0)) 1 (closingBytes isCharged bellard (plainView s) t (replicate 32 0))) e
+    ∙ ap (lineOf (answered (closeBy isCharged bellard (plainView s) (totalOf (limitsOf bellard) sums) (replicate 32 0))) 1) (bytes-encoded bellard s good (replicate 32 0))
+    ∙ ap (λ (t : ℕ). lineOf (answered (closeBy isCharged bellard (plainView s) t (replicate 32 0))) 1 (bytesLeft (closeBy isCharged bellard (plainView s) t (replicate 32 0)) 0)) e
 
 -- a ledger of another size
 other-size : (s : List ℕ) → (length s ≡ 352 → ⊥) → closingLine bellard s ≡ refusedOne
 unfolding closingLine lineOf refusedLine decimalWithin
 other-size s h =
-    ap (λ (a : ℤ). lineOf a (posIn s) (closeBytes bellard s (replicate 32 0))) (sym (ledger-size bellard s (replicate 32 0) h))
+    ap (λ (a : ℤ). lineOf a (posIn s) (bytesLeft (closeCall bellard s (replicate 32 0)) 0)) (sym (ledger-size bellard s (replicate 32 0) h))
 
 pub figures-hold : Figures
-unfolding lineOf finishedLine refusedLine decimalWithin plainView termCount closingAnswer closingBytes closeRefusal refusal answer settledAt digitsAt settled settledUpTo low high sameℤ allBelow isTicket charges sideSum overRows rowSum sum onSide isAdded isCharged lowDigits hexText hexDigit residue
+unfolding lineOf finishedLine refusedLine decimalWithin plainView termCount closeBy answered allLeft refusedBy refusal answer settledAt digitsAt settled settledUpTo low high sameℤ allBelow isTicket charges sideSum overRows rowSum sum onSide isAdded isCharged lowDigits hexText hexDigit residue
 figures-hold = record {
   fifty = λ sums fit e. full-line sums fit 50 e;
   forty-eight = λ sums fit e. full-line sums fit 48 e;

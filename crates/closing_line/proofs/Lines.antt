@@ -13,20 +13,21 @@ use Rattle.run.specs.Answers.{numberOf, answerOf}
 use Rattle.run.specs.declared.Answer.{Answer}
 use Rattle.run.specs.declared.Answer.the-variants.{Finished, Refused}
 use Rattle.run.specs.declared.Refusal.{Refusal}
-use Rattle.run.proofs.Answering.{numbered}
+use Rattle.run.proofs.Answering.{in-table}
 use Rattle.ledger.specs.Ledger.{posIn, totalIn}
-use Rattle.closing.specs.Closing.{closeAnswer, closeBytes}
+use Rattle.closing.specs.Closing.{closeCall}
 use Rattle.closing.proofs.Closing.{settled-few, tested, was-closed}
 use Rattle.closing_line.specs.Line.{finishedLine, refusedLine, lineOf, closingLine}
+use Rattle.run.specs.Call.{bytesLeft, answered}
 
 numbered-line : (n p : ℕ) (digits : List ℕ) → 0 < n → refusedLine n ≡ lineOf (negℤ (pos n)) p digits
 unfolding lineOf
 numbered-line zero p digits h = absurd (omega arith)
 numbered-line (suc n) p digits h = refl
 
-module _ (F : Formula) (s : List ℕ) (a : Answer) (answers : answerOf a ≡ closeAnswer F s (replicate 32 0)) where
+module _ (F : Formula) (s : List ℕ) (a : Answer) (answers : answerOf a ≡ answered (closeCall F s (replicate 32 0))) where
   abbrev bytes : List ℕ
-  bytes = closeBytes F s (replicate 32 0)
+  bytes = bytesLeft (closeCall F s (replicate 32 0)) 0
 
   line-by : (b : Answer) → a ≡ b → lineOf (answerOf b) (posIn s) bytes ≡ closingLine F s
   unfolding closingLine
@@ -43,4 +44,4 @@ module _ (F : Formula) (s : List ℕ) (a : Answer) (answers : answerOf a ≡ clo
   finished-line d p digits f e g = ap₂ (λ (n : ℕ) (t : List ℕ). finishedLine n d (take d t)) e g ∙ line-by (Finished d) f
 
   pub refused-line : (r : Refusal) (n : ℕ) → a ≡ Refused r → n ≡ numberOf r → refusedLine n ≡ closingLine F s
-  refused-line r n f e = ap refusedLine e ∙ numbered-line (numberOf r) (posIn s) bytes (numbered r .0) ∙ line-by (Refused r) f
+  refused-line r n f e = ap refusedLine e ∙ numbered-line (numberOf r) (posIn s) bytes (in-table r .0) ∙ line-by (Refused r) f

@@ -6,8 +6,9 @@ use lib.IntN.{ℤ, pos, negsuc}
 use lib.ListN.{length, take, replicate}
 use Rattle.series.specs.Series.{Formula}
 use Rattle.ledger.specs.Ledger.{posIn}
-use Rattle.closing.specs.Closing.{closeAnswer, closeBytes}
+use Rattle.closing.specs.Closing.{closeCall}
 use Rattle.closing_line.specs.Decimal.{decimal}
+use Rattle.run.specs.Call.{answered, bytesLeft}
 
 -- ---- characters
 
@@ -40,7 +41,7 @@ lineOf (negsuc n) p digits = refusedLine (suc n)
 
 -- the line for the bytes of a ledger, which is closed with 32 zero bytes for the digits
 unfoldable pub closingLine : Formula → List ℕ → List ℕ
-closingLine F s = lineOf (closeAnswer F s (replicate 32 0)) (posIn s) (closeBytes F s (replicate 32 0))
+closingLine F s = lineOf (answered (closeCall F s (replicate 32 0))) (posIn s) (bytesLeft (closeCall F s (replicate 32 0)) 0)
 
 -- ---- a buffer that gets one word after another
 

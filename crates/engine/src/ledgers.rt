@@ -1,26 +1,21 @@
 // Opening a ledger, posting a ticket or a sheet to it, and looking at a sheet before it is posted.
 use crate::answers::to_c;
 use series::Series;
-ghost use mathlib.Core.Path.{_≡_};
+ghost use mathlib.Core.List.{[], _∷_};
 ghost use Rattle.series.specs.Bellard.{bellard};
 ghost use Rattle.series.specs.Check.{check};
-ghost use Rattle.run.specs.Run.{limitsOf};
-ghost use Rattle.ledger.specs.Calls.{openAnswer, openBytes, ticketAnswer, ticketBytes};
-ghost use Rattle.sheet.specs.Calls.{sheetAnswer, sheetBytes};
-ghost use Rattle.look.specs.Look.{lookAnswer, lookBytes};
+ghost use Rattle.calls.specs.Request.{Open, Post, PostSheet, Look, Serves};
 
 #[no_mangle]
 pub extern "C" fn bbp_open(p: u64, c: u64, ledger: &mut [u8]) -> i64
-    ensures answers { λ r. ⌜ r ≡ openAnswer (limitsOf bellard) p c (now (ledger .entry)) ⌝ }
-    ensures leaves { λ _. ⌜ now (ledger .exit) ≡ openBytes (limitsOf bellard) p c (now (ledger .entry)) ⌝ }
+    ensures { λ r. ⌜ Serves bellard (Open p c (now (ledger .entry))) r (now (ledger .exit) ∷ []) [] ⌝ }
 {
     to_c(ledger::open(Series::Bellard, p, c, ledger))
 }
 
 #[no_mangle]
 pub extern "C" fn bbp_check_open(p: u64, c: u64, ledger: &mut [u8]) -> i64
-    ensures answers { λ r. ⌜ r ≡ openAnswer (limitsOf check) p c (now (ledger .entry)) ⌝ }
-    ensures leaves { λ _. ⌜ now (ledger .exit) ≡ openBytes (limitsOf check) p c (now (ledger .entry)) ⌝ }
+    ensures { λ r. ⌜ Serves check (Open p c (now (ledger .entry))) r (now (ledger .exit) ∷ []) [] ⌝ }
 {
     to_c(ledger::open(Series::Check, p, c, ledger))
 }
@@ -34,8 +29,7 @@ pub extern "C" fn bbp_post(
     block: u64,
     sum: &[u8],
 ) -> i64
-    ensures answers { λ r. ⌜ r ≡ ticketAnswer (limitsOf bellard) (now (ledger .entry)) p c row block (now (sum .entry)) ⌝ }
-    ensures leaves { λ _. ⌜ now (ledger .exit) ≡ ticketBytes (limitsOf bellard) (now (ledger .entry)) p c row block (now (sum .entry)) ⌝ }
+    ensures { λ r. ⌜ Serves bellard (Post (now (ledger .entry)) p c row block (now (sum .entry))) r (now (ledger .exit) ∷ []) (now (sum .exit) ∷ []) ⌝ }
 {
     to_c(ledger::post(Series::Bellard, ledger, p, c, row, block, sum))
 }
@@ -49,24 +43,21 @@ pub extern "C" fn bbp_check_post(
     block: u64,
     sum: &[u8],
 ) -> i64
-    ensures answers { λ r. ⌜ r ≡ ticketAnswer (limitsOf check) (now (ledger .entry)) p c row block (now (sum .entry)) ⌝ }
-    ensures leaves { λ _. ⌜ now (ledger .exit) ≡ ticketBytes (limitsOf check) (now (ledger .entry)) p c row block (now (sum .entry)) ⌝ }
+    ensures { λ r. ⌜ Serves check (Post (now (ledger .entry)) p c row block (now (sum .entry))) r (now (ledger .exit) ∷ []) (now (sum .exit) ∷ []) ⌝ }
 {
     to_c(ledger::post(Series::Check, ledger, p, c, row, block, sum))
 }
 
 #[no_mangle]
 pub extern "C" fn bbp_sheet_post(ledger: &mut [u8], sheet: &[u8]) -> i64
-    ensures answers { λ r. ⌜ r ≡ sheetAnswer (limitsOf bellard) (now (ledger .entry)) (now (sheet .entry)) ⌝ }
-    ensures leaves { λ _. ⌜ now (ledger .exit) ≡ sheetBytes (limitsOf bellard) (now (ledger .entry)) (now (sheet .entry)) ⌝ }
+    ensures { λ r. ⌜ Serves bellard (PostSheet (now (ledger .entry)) (now (sheet .entry))) r (now (ledger .exit) ∷ []) (now (sheet .exit) ∷ []) ⌝ }
 {
     to_c(sheet::posting::post(Series::Bellard, ledger, sheet))
 }
 
 #[no_mangle]
 pub extern "C" fn bbp_check_sheet_post(ledger: &mut [u8], sheet: &[u8]) -> i64
-    ensures answers { λ r. ⌜ r ≡ sheetAnswer (limitsOf check) (now (ledger .entry)) (now (sheet .entry)) ⌝ }
-    ensures leaves { λ _. ⌜ now (ledger .exit) ≡ sheetBytes (limitsOf check) (now (ledger .entry)) (now (sheet .entry)) ⌝ }
+    ensures { λ r. ⌜ Serves check (PostSheet (now (ledger .entry)) (now (sheet .entry))) r (now (ledger .exit) ∷ []) (now (sheet .exit) ∷ []) ⌝ }
 {
     to_c(sheet::posting::post(Series::Check, ledger, sheet))
 }
@@ -74,8 +65,7 @@ pub extern "C" fn bbp_check_sheet_post(ledger: &mut [u8], sheet: &[u8]) -> i64
 // For Bellard's runs alone.
 #[no_mangle]
 pub extern "C" fn bbp_look(ledger: &[u8], sheet: &[u8], total: &mut [u8]) -> i64
-    ensures answers { λ r. ⌜ r ≡ lookAnswer (limitsOf bellard) (now (ledger .entry)) (now (sheet .entry)) (now (total .entry)) ⌝ }
-    ensures leaves { λ _. ⌜ now (total .exit) ≡ lookBytes (limitsOf bellard) (now (ledger .entry)) (now (sheet .entry)) (now (total .entry)) ⌝ }
+    ensures { λ r. ⌜ Serves bellard (Look (now (ledger .entry)) (now (sheet .entry)) (now (total .entry))) r (now (total .exit) ∷ []) (now (ledger .exit) ∷ now (sheet .exit) ∷ []) ⌝ }
 {
     to_c(look::look(Series::Bellard, ledger, sheet, total))
 }

@@ -1,4 +1,4 @@
-// The calls of the C interface, a thin function for each: only these name a formula.
+// The calls of the C interface: a thin function for each, whose contract names the request that it serves, with its formula.
 pub mod answers;
 pub mod close;
 pub mod ledgers;

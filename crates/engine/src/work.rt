@@ -2,11 +2,11 @@
 use crate::answers::to_c;
 use series::Series;
 use ticket::Part;
-ghost use mathlib.Core.Path.{_≡_};
+ghost use mathlib.Core.List.{[], _∷_};
 ghost use Rattle.series.specs.Bellard.{bellard};
 ghost use Rattle.series.specs.Check.{check};
+ghost use Rattle.calls.specs.Request.{Work, Serves};
 ghost use Rattle.ticket.specs.declared.Part.the-variants.{Whole, Lower, Upper};
-ghost use Rattle.ticket.specs.Work.{workAnswer, workBytes, workSquarings};
 
 #[no_mangle]
 pub extern "C" fn bbp_work(
@@ -17,9 +17,7 @@ pub extern "C" fn bbp_work(
     sum: &mut [u8],
     squarings: &mut [u8],
 ) -> i64
-    ensures answers { λ r. ⌜ r ≡ workAnswer bellard p c row block (now (sum .entry)) (now (squarings .entry)) ⌝ }
-    ensures leaves { λ _. ⌜ now (sum .exit) ≡ workBytes bellard Whole p c row block (now (sum .entry)) (now (squarings .entry)) ⌝ }
-    ensures counts { λ _. ⌜ now (squarings .exit) ≡ workSquarings bellard Whole p c row block (now (sum .entry)) (now (squarings .entry)) ⌝ }
+    ensures { λ r. ⌜ Serves bellard (Work Whole p c row block (now (sum .entry)) (now (squarings .entry))) r (now (sum .exit) ∷ now (squarings .exit) ∷ []) [] ⌝ }
 {
     to_c(ticket::work(
         Series::Bellard,
@@ -42,9 +40,7 @@ pub extern "C" fn bbp_check_work(
     sum: &mut [u8],
     squarings: &mut [u8],
 ) -> i64
-    ensures answers { λ r. ⌜ r ≡ workAnswer check p c row block (now (sum .entry)) (now (squarings .entry)) ⌝ }
-    ensures leaves { λ _. ⌜ now (sum .exit) ≡ workBytes check Whole p c row block (now (sum .entry)) (now (squarings .entry)) ⌝ }
-    ensures counts { λ _. ⌜ now (squarings .exit) ≡ workSquarings check Whole p c row block (now (sum .entry)) (now (squarings .entry)) ⌝ }
+    ensures { λ r. ⌜ Serves check (Work Whole p c row block (now (sum .entry)) (now (squarings .entry))) r (now (sum .exit) ∷ now (squarings .exit) ∷ []) [] ⌝ }
 {
     to_c(ticket::work(Series::Check, Part::Whole, p, c, row, block, sum, squarings))
 }
@@ -58,9 +54,7 @@ pub extern "C" fn bbp_work_lower(
     sum: &mut [u8],
     squarings: &mut [u8],
 ) -> i64
-    ensures answers { λ r. ⌜ r ≡ workAnswer bellard p c row block (now (sum .entry)) (now (squarings .entry)) ⌝ }
-    ensures leaves { λ _. ⌜ now (sum .exit) ≡ workBytes bellard Lower p c row block (now (sum .entry)) (now (squarings .entry)) ⌝ }
-    ensures counts { λ _. ⌜ now (squarings .exit) ≡ workSquarings bellard Lower p c row block (now (sum .entry)) (now (squarings .entry)) ⌝ }
+    ensures { λ r. ⌜ Serves bellard (Work Lower p c row block (now (sum .entry)) (now (squarings .entry))) r (now (sum .exit) ∷ now (squarings .exit) ∷ []) [] ⌝ }
 {
     to_c(ticket::work(
         Series::Bellard,
@@ -83,9 +77,7 @@ pub extern "C" fn bbp_check_work_lower(
     sum: &mut [u8],
     squarings: &mut [u8],
 ) -> i64
-    ensures answers { λ r. ⌜ r ≡ workAnswer check p c row block (now (sum .entry)) (now (squarings .entry)) ⌝ }
-    ensures leaves { λ _. ⌜ now (sum .exit) ≡ workBytes check Lower p c row block (now (sum .entry)) (now (squarings .entry)) ⌝ }
-    ensures counts { λ _. ⌜ now (squarings .exit) ≡ workSquarings check Lower p c row block (now (sum .entry)) (now (squarings .entry)) ⌝ }
+    ensures { λ r. ⌜ Serves check (Work Lower p c row block (now (sum .entry)) (now (squarings .entry))) r (now (sum .exit) ∷ now (squarings .exit) ∷ []) [] ⌝ }
 {
     to_c(ticket::work(Series::Check, Part::Lower, p, c, row, block, sum, squarings))
 }
@@ -99,9 +91,7 @@ pub extern "C" fn bbp_work_upper(
     sum: &mut [u8],
     squarings: &mut [u8],
 ) -> i64
-    ensures answers { λ r. ⌜ r ≡ workAnswer bellard p c row block (now (sum .entry)) (now (squarings .entry)) ⌝ }
-    ensures leaves { λ _. ⌜ now (sum .exit) ≡ workBytes bellard Upper p c row block (now (sum .entry)) (now (squarings .entry)) ⌝ }
-    ensures counts { λ _. ⌜ now (squarings .exit) ≡ workSquarings bellard Upper p c row block (now (sum .entry)) (now (squarings .entry)) ⌝ }
+    ensures { λ r. ⌜ Serves bellard (Work Upper p c row block (now (sum .entry)) (now (squarings .entry))) r (now (sum .exit) ∷ now (squarings .exit) ∷ []) [] ⌝ }
 {
     to_c(ticket::work(
         Series::Bellard,
@@ -124,9 +114,7 @@ pub extern "C" fn bbp_check_work_upper(
     sum: &mut [u8],
     squarings: &mut [u8],
 ) -> i64
-    ensures answers { λ r. ⌜ r ≡ workAnswer check p c row block (now (sum .entry)) (now (squarings .entry)) ⌝ }
-    ensures leaves { λ _. ⌜ now (sum .exit) ≡ workBytes check Upper p c row block (now (sum .entry)) (now (squarings .entry)) ⌝ }
-    ensures counts { λ _. ⌜ now (squarings .exit) ≡ workSquarings check Upper p c row block (now (sum .entry)) (now (squarings .entry)) ⌝ }
+    ensures { λ r. ⌜ Serves check (Work Upper p c row block (now (sum .entry)) (now (squarings .entry))) r (now (sum .exit) ∷ now (squarings .exit) ∷ []) [] ⌝ }
 {
     to_c(ticket::work(Series::Check, Part::Upper, p, c, row, block, sum, squarings))
 }

@@ -1,6 +1,8 @@
 -- The general fact, for any list of rows in which every N is at least 1 and, at every length, the exact terms that are not charged together
 -- with all from K on add up to less than one unit on each side: the bound around the total, and the digits that it settles. It holds by
 -- whatever rule terms are charged. Document 01, "Closing"; document 02, slips 4 and 5.
+-- A list of rows is a `Formula`: so no l is below -128 (a row holds l + 128, which is a natural number), and one step of E and one rule of signs
+-- are those of all its rows.
 use mathlib.Core.Path.{_≡_}
 use Prim.Native.Nat.{ℕ, _*_, _≤_, _<_}
 use lib.IntN.{ℤ}

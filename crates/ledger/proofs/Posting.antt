@@ -2,13 +2,13 @@
 -- Assumes nothing.
 use mathlib.Core.Path.{_≡_, refl, sym, ap, _∙_}
 use mathlib.Core.Bool.{true, false, not, _&&_}
-use mathlib.Core.List.{List}
+use mathlib.Core.List.{List, [], _∷_}
 use Prim.Native.Nat.{ℕ, _+_, _*_, _-_, _/_, _%_, _^_, _≤_, _<_}
 use native.Mathlib.Nat.{div-add-mod', mod-lt, div-lt-iff-lt-mul, mul-le-mul-right, one-mul, mod-eq-of-lt}
 use native.Mathlib.Omega.{arith}
 use borrow.Author.Tests.{eqb-true, eqb-false, eq-eqb, ne-eqb, not-false}
 use lib.Dec.{eqb}
-use lib.IntN.{pos}
+use lib.IntN.{pos, negsuc}
 use lib.ListN.{length, getD}
 use lib.Pow.{pow-add, pow-pos}
 use lib.Seq.{take-all}
@@ -21,9 +21,11 @@ use Rattle.run.specs.declared.Refusal.{Refusal}
 use Rattle.run.specs.declared.Answer.{Answer}
 use Rattle.run.specs.declared.Answer.the-variants.{Finished, Refused}
 use Rattle.run.proofs.Range.{range-of, ticket-row, ticket-block}
-use Rattle.run.proofs.Answering.{passes, finished, changed, was-finished, was-refused}
+use Rattle.run.proofs.Answering.{passes}
 use Rattle.ledger.specs.Ledger.{View, viewOf, ledgerSize, markAt, posIn, blocksIn, bitIn, markIn, inOrder, enter}
-use Rattle.ledger.specs.Calls.{ticketRefusal, ticketAnswer, ticketBytes}
+use Rattle.run.specs.Call.{Call, refusedBy, answered, Does}
+use Rattle.run.proofs.Calls.{refuses, finishes, was-worked, turned-down}
+use Rattle.ledger.specs.Calls.{ticketRefusal, postCall}
 
 -- ---- the bit of a ticket
 
@@ -112,11 +114,11 @@ block-low {lim} {s} {p} {C} {row} {block} h =
     omega (arith, range-of lim p C (h .range) .C-high, ticket-block lim C row block (h .ticket))
 
 module _ (lim : Limits) (s : List ℕ) (p C row block : ℕ) (sum : List ℕ) where
-  abbrev number : ℕ
-  number = ticketRefusal lim (viewOf lim s) p C row block sum
+  abbrev this : Call
+  this = postCall lim s p C row block sum
 
-  pub passed : number ≡ 0 → Passed lim s p C row block sum
-  unfolding viewOf
+  pub passed : refusedBy this ≡ 0 → Passed lim s p C row block sum
+  unfolding postCall refusedBy ticketRefusal viewOf
   passed e =
       let t = ticket-taken lim (viewOf lim s) p C row block sum e in
       record {
@@ -127,43 +129,43 @@ module _ (lim : Limits) (s : List ℕ) (p C row block : ℕ) (sum : List ℕ) wh
         unset = sym (mark-is-bit lim s C row block (t .same-C) (t .ticket)) ∙ t .new;
       }
 
-  pub ledger-size : (length s ≡ ledgerSize lim → ⊥) → number ≡ 1
-  unfolding ticketRefusal refusal viewOf
-  ledger-size h = rw (ne-eqb _ _ h) refl
+  pub ledger-size : (length s ≡ ledgerSize lim → ⊥) → negsuc 0 ≡ answered this
+  unfolding postCall refusedBy refusal viewOf
+  ledger-size h = refuses this 0 (rw (ne-eqb _ _ h) refl) .0
 
-  pub sum-size : length s ≡ ledgerSize lim → (length sum ≡ 16 → ⊥) → number ≡ 1
-  unfolding ticketRefusal refusal viewOf
-  sum-size h l = rw (eq-eqb _ _ h, ne-eqb _ _ l) refl
+  pub sum-size : length s ≡ ledgerSize lim → (length sum ≡ 16 → ⊥) → negsuc 0 ≡ answered this
+  unfolding postCall refusedBy refusal viewOf
+  sum-size h l = refuses this 0 (rw (eq-eqb _ _ h, ne-eqb _ _ l) refl) .0
 
   module _ (h : length s ≡ ledgerSize lim) (l : length sum ≡ 16) where
-    pub out-of-range : inRange lim p C ≡ false → number ≡ 2
-    unfolding ticketRefusal refusal viewOf
-    out-of-range r = rw (eq-eqb _ _ h, eq-eqb _ _ l, r) refl
+    pub out-of-range : inRange lim p C ≡ false → negsuc 1 ≡ answered this
+    unfolding postCall refusedBy refusal viewOf
+    out-of-range r = refuses this 1 (rw (eq-eqb _ _ h, eq-eqb _ _ l, r) refl) .0
 
-    pub no-ticket : inRange lim p C ≡ true → isTicket lim C row block ≡ false → number ≡ 4
-    unfolding ticketRefusal refusal viewOf
-    no-ticket r t = rw (eq-eqb _ _ h, eq-eqb _ _ l, r, t) refl
+    pub no-ticket : inRange lim p C ≡ true → isTicket lim C row block ≡ false → negsuc 3 ≡ answered this
+    unfolding postCall refusedBy refusal viewOf
+    no-ticket r t = refuses this 3 (rw (eq-eqb _ _ h, eq-eqb _ _ l, r, t) refl) .0
 
     module _ (r : inRange lim p C ≡ true) (t : isTicket lim C row block ≡ true) where
-      pub out-of-order : inOrder lim s ≡ false → number ≡ 5
-      unfolding ticketRefusal refusal viewOf
-      out-of-order o = rw (eq-eqb _ _ h, eq-eqb _ _ l, r, t, o) refl
+      pub out-of-order : inOrder lim s ≡ false → negsuc 4 ≡ answered this
+      unfolding postCall refusedBy refusal viewOf
+      out-of-order o = refuses this 4 (rw (eq-eqb _ _ h, eq-eqb _ _ l, r, t, o) refl) .0
 
-      pub other-run : inOrder lim s ≡ true → (eqb p (posIn s) && eqb C (blocksIn s)) ≡ false → number ≡ 6
-      unfolding ticketRefusal refusal viewOf
-      other-run o u = rw (eq-eqb _ _ h, eq-eqb _ _ l, r, t, o, u) refl
+      pub other-run : inOrder lim s ≡ true → (eqb p (posIn s) && eqb C (blocksIn s)) ≡ false → negsuc 5 ≡ answered this
+      unfolding postCall refusedBy refusal viewOf
+      other-run o u = refuses this 5 (rw (eq-eqb _ _ h, eq-eqb _ _ l, r, t, o, u) refl) .0
 
       module _ (o : inOrder lim s ≡ true) (u : (eqb p (posIn s) && eqb C (blocksIn s)) ≡ true) where
         blocks : C ≡ blocksIn s
         blocks = eqb-true C (blocksIn s) (and-right (eqb p (posIn s)) (eqb C (blocksIn s)) u)
 
-        pub marked : bitIn lim s row block ≡ true → number ≡ 7
-        unfolding ticketRefusal refusal viewOf
-        marked b = rw (eq-eqb _ _ h, eq-eqb _ _ l, r, t, o, u, mark-is-bit lim s C row block blocks t, b) refl
+        pub marked : bitIn lim s row block ≡ true → negsuc 6 ≡ answered this
+        unfolding postCall refusedBy refusal viewOf
+        marked b = refuses this 6 (rw (eq-eqb _ _ h, eq-eqb _ _ l, r, t, o, u, mark-is-bit lim s C row block blocks t, b) refl) .0
 
-        pub admitted : bitIn lim s row block ≡ false → number ≡ 0
-        unfolding ticketRefusal refusal viewOf
-        admitted b = rw (eq-eqb _ _ h, eq-eqb _ _ l, r, t, o, u, mark-is-bit lim s C row block blocks t, b) refl
+        pub admitted : bitIn lim s row block ≡ false → pos 0 ≡ answered this
+        unfolding postCall refusedBy refusal viewOf
+        admitted b = finishes this (rw (eq-eqb _ _ h, eq-eqb _ _ l, r, t, o, u, mark-is-bit lim s C row block blocks t, b) refl) .0
 
 -- ---- after the tests, by what they answered
 
@@ -172,19 +174,18 @@ sum-read : (sum : List ℕ) → length sum ≡ 16 → field sum 0 16 ≡ valueOf
 unfolding field
 sum-read sum h = ap valueOf (take-all 16 sum (omega arith))
 
-module _ (lim : Limits) (s : List ℕ) (p C row block : ℕ) (sum : List ℕ) (a : Answer) (tested : answerOf a ≡ ticketAnswer lim s p C row block sum) where
+module _ (lim : Limits) (s : List ℕ) (p C row block : ℕ) (sum : List ℕ) (a : Answer)
+    (tested : answerOf a ≡ answered (postCall lim s p C row block sum)) where
   pub none-applied : (v : ℕ) → a ≡ Finished v → Passed lim s p C row block sum
-  unfolding ticketAnswer
-  none-applied v e = passed lim s p C row block sum (was-finished a v _ 0 e tested .0)
+  none-applied v e = passed lim s p C row block sum (was-worked _ a tested v e .0)
 
   pub posted : (v x : ℕ) (t : List ℕ) → a ≡ Finished v → x ≡ field sum 0 16 → t ≡ enter lim s row block x
-      → (pos 0 ≡ ticketAnswer lim s p C row block sum) × (t ≡ ticketBytes lim s p C row block sum)
-  unfolding ticketAnswer ticketBytes
+      → Does (postCall lim s p C row block sum) (pos 0) (t ∷ [])
+  unfolding postCall
   posted v x t e ex et =
-      let z = was-finished a v _ 0 e tested .0 in
-      (finished _ 0 z, et ∙ ap (enter lim s row block) (ex ∙ sum-read sum (none-applied v e .sum-sized)) ∙ changed _ _ s z)
+      let f = finishes (postCall lim s p C row block sum) (was-worked _ a tested v e .0) in
+      (f .0, ap (λ (b : List ℕ). b ∷ []) (et ∙ ap (enter lim s row block) (ex ∙ sum-read sum (none-applied v e .sum-sized))) ∙ f .1)
 
-  pub not-posted : (r : Refusal) → a ≡ Refused r
-      → (answerOf (Refused r) ≡ ticketAnswer lim s p C row block sum) × (s ≡ ticketBytes lim s p C row block sum)
-  unfolding ticketAnswer ticketBytes
-  not-posted r e = (sym (ap answerOf e) ∙ tested, was-refused a r _ 0 _ s e tested)
+  pub not-posted : (r : Refusal) → a ≡ Refused r → Does (postCall lim s p C row block sum) (answerOf (Refused r)) (s ∷ [])
+  unfolding postCall
+  not-posted r e = turned-down (postCall lim s p C row block sum) a tested r e

@@ -1,28 +1,25 @@
 -- Opening a ledger and posting one ticket: the refusals, the answer, and the ledger that each call leaves.
-use mathlib.Core.Bool.{not, cond, _&&_, _||_}
+use mathlib.Core.Path.{refl}
+use mathlib.Core.Bool.{not, _&&_, _||_}
 use mathlib.Core.List.{List, [], _∷_}
 use Prim.Native.Nat.{ℕ}
 use lib.Dec.{eqb}
-use lib.IntN.{ℤ}
 use lib.ListN.{length}
 use Rattle.words.specs.Bytes.{valueOf}
-use Rattle.run.specs.Refusal.{Test, _⇐_, refusal, answer}
+use Rattle.run.specs.Refusal.{Test, _⇐_, refusal}
+use Rattle.run.specs.Call.{Call, slice}
 use Rattle.run.specs.Run.{Limits, inRange, isTicket}
 use Rattle.ledger.specs.Ledger.{View, viewOf, ledgerSize, fresh, enter}
 
 -- ---- opening
 
-abbrev pub openTests : Limits → ℕ → ℕ → List ℕ → List Test
-openTests lim p C s = (1 ⇐ not (eqb (length s) (ledgerSize lim))) ∷ (2 ⇐ not (inRange lim p C)) ∷ []
-
-unfoldable pub openRefusal : Limits → ℕ → ℕ → List ℕ → ℕ
-openRefusal lim p C s = refusal (openTests lim p C s)
-
-unfoldable pub openAnswer : Limits → ℕ → ℕ → List ℕ → ℤ
-openAnswer lim p C s = answer (openRefusal lim p C s) 0
-
-unfoldable pub openBytes : Limits → ℕ → ℕ → List ℕ → List ℕ
-openBytes lim p C s = cond (eqb (openRefusal lim p C s) 0) (fresh lim p C) s
+unfoldable pub openCall : Limits → ℕ → ℕ → List ℕ → Call
+openCall lim p C s = record {
+  tests = (1 ⇐ not (eqb (length s) (ledgerSize lim))) ∷ (2 ⇐ not (inRange lim p C)) ∷ [];
+  in-order = refl;
+  value = 0;
+  slices = slice s (fresh lim p C) ∷ [];
+}
 
 -- ---- posting one ticket: `v` is what is seen of the ledger
 
@@ -34,9 +31,10 @@ ticketTests lim v p C row block sum =
 unfoldable pub ticketRefusal : Limits → View → ℕ → ℕ → ℕ → ℕ → List ℕ → ℕ
 ticketRefusal lim v p C row block sum = refusal (ticketTests lim v p C row block sum)
 
-unfoldable pub ticketAnswer : Limits → List ℕ → ℕ → ℕ → ℕ → ℕ → List ℕ → ℤ
-ticketAnswer lim s p C row block sum = answer (ticketRefusal lim (viewOf lim s) p C row block sum) 0
-
-unfoldable pub ticketBytes : Limits → List ℕ → ℕ → ℕ → ℕ → ℕ → List ℕ → List ℕ
-ticketBytes lim s p C row block sum =
-    cond (eqb (ticketRefusal lim (viewOf lim s) p C row block sum) 0) (enter lim s row block (valueOf sum)) s
+unfoldable pub postCall : Limits → List ℕ → ℕ → ℕ → ℕ → ℕ → List ℕ → Call
+postCall lim s p C row block sum = record {
+  tests = ticketTests lim (viewOf lim s) p C row block sum;
+  in-order = refl;
+  value = 0;
+  slices = slice s (enter lim s row block (valueOf sum)) ∷ [];
+}

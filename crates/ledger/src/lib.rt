@@ -6,6 +6,7 @@ use run::Refusal;
 use series::Series;
 use words::Wide;
 ghost use mathlib.Core.Path.{_≡_};
+ghost use mathlib.Core.List.{[], _∷_};
 ghost use mathlib.Core.Bool.{true, false, not, _&&_, _||_};
 ghost use Prim.Native.Nat.{_+_, _*_, _≤_, _<_};
 ghost use lib.Dec.{ltb, eqb};
@@ -16,9 +17,10 @@ ghost use Rattle.series.specs.Names.{formulaOf};
 ghost use Rattle.series.specs.Series.{rowCount};
 ghost use Rattle.run.specs.Run.{limitsOf};
 ghost use Rattle.run.specs.Answers.{answerOf};
+ghost use Rattle.run.specs.Call.{answered, Does};
 ghost use Rattle.ledger.specs.Ledger.{ledgerSize, marksAt, markAt, posIn, blocksIn, bitIn, inOrder, mark, Enterable};
 ghost use Rattle.ledger.specs.Ledger as definition;
-ghost use Rattle.ledger.specs.Calls.{openAnswer, openBytes, ticketAnswer, ticketBytes};
+ghost use Rattle.ledger.specs.Calls.{openCall, postCall};
 
 // How many bytes a ledger has.
 pub fn ledger_size(f: Series) -> usize
@@ -36,8 +38,7 @@ pub fn marks_at(f: Series) -> usize
 
 // Opens a ledger for the run p, c. Whatever the bytes were, they become a fresh ledger.
 pub fn open(f: Series, p: u64, c: u64, ledger: &mut [u8]) -> Answer
-    ensures answers { λ r. ⌜ answerOf r ≡ openAnswer (limitsOf (formulaOf f)) p c (now (ledger .entry)) ⌝ }
-    ensures leaves { λ _. ⌜ now (ledger .exit) ≡ openBytes (limitsOf (formulaOf f)) p c (now (ledger .entry)) ⌝ }
+    ensures { λ r. ⌜ Does (openCall (limitsOf (formulaOf f)) p c (now (ledger .entry))) (answerOf r) (now (ledger .exit) ∷ []) ⌝ }
 {
     if ledger.len() != ledger_size(f) {
         return Answer::Refused(Refusal::WrongSize);
@@ -155,7 +156,7 @@ pub fn test_ticket(
     block: u64,
     sum: &[u8],
 ) -> Answer
-    ensures { λ r. ⌜ answerOf r ≡ ticketAnswer (limitsOf (formulaOf f)) (now (ledger .entry)) p c row block (now (sum .entry)) ⌝ }
+    ensures { λ r. ⌜ answerOf r ≡ answered (postCall (limitsOf (formulaOf f)) (now (ledger .entry)) p c row block (now (sum .entry))) ⌝ }
 {
     if ledger.len() != ledger_size(f) {
         return Answer::Refused(Refusal::WrongSize);
@@ -191,8 +192,7 @@ pub fn post(
     block: u64,
     sum: &[u8],
 ) -> Answer
-    ensures answers { λ r. ⌜ answerOf r ≡ ticketAnswer (limitsOf (formulaOf f)) (now (ledger .entry)) p c row block (now (sum .entry)) ⌝ }
-    ensures leaves { λ _. ⌜ now (ledger .exit) ≡ ticketBytes (limitsOf (formulaOf f)) (now (ledger .entry)) p c row block (now (sum .entry)) ⌝ }
+    ensures { λ r. ⌜ Does (postCall (limitsOf (formulaOf f)) (now (ledger .entry)) p c row block (now (sum .entry))) (answerOf r) (now (ledger .exit) ∷ []) ⌝ }
 {
     match test_ticket(f, ledger, p, c, row, block, sum) {
         Answer::Finished(_) => {

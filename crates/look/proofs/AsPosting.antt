@@ -11,9 +11,10 @@ use Rattle.run.specs.Refusal.{refusal}
 use Rattle.run.specs.Run.{Limits}
 use Rattle.run.proofs.Answering.{negated, refused, finished, stays, kept, changed, not-refused, refused-by}
 use Rattle.ledger.specs.Ledger.{viewOf}
-use Rattle.sheet.specs.Calls.{sheetRefusal, sheetAnswer}
-use Rattle.look.specs.Look.{lookRefusal, lookAnswer, lookBytes}
+use Rattle.sheet.specs.Calls.{sheetRefusal, sheetPostCall}
+use Rattle.look.specs.Look.{lookRefusal, lookCall}
 use Rattle.look.specs.AsPosting.{AsPosting, LooksAsPosted}
+use Rattle.run.specs.Call.{answered, refusedBy, allLeft}
 
 module _ (lim : Limits) (ledger s total : List ℕ) where
   abbrev look-number : ℕ
@@ -32,7 +33,7 @@ module _ (lim : Limits) (ledger s total : List ℕ) where
     same-number = rw (eq-eqb (length total) 16 room) refl
 
     as-posting : AsPosting lim ledger s total
-    unfolding lookAnswer lookBytes sheetAnswer
+    unfolding lookCall refusedBy answered lookRefusal allLeft sheetPostCall sheetRefusal
     as-posting = record {
       refused = λ n h e.
           let q : look-number ≡ n = same-number ∙ refused-by post-number 0 n h e in
@@ -48,7 +49,7 @@ module _ (lim : Limits) (ledger s total : List ℕ) where
     }
 
 pub looks-as-posted : (lim : Limits) → LooksAsPosted lim
-unfolding lookAnswer lookBytes
+unfolding lookCall refusedBy answered lookRefusal allLeft
 looks-as-posted lim = record {
   as-posting = as-posting lim;
   other-size = λ ledger s total h.

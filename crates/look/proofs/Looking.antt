@@ -2,7 +2,7 @@
 -- Assumes nothing.
 use mathlib.Core.Path.{_≡_, refl, sym, ap, _∙_}
 use mathlib.Core.Bool.{Bool, true, false}
-use mathlib.Core.List.{List, _++_}
+use mathlib.Core.List.{List, _++_, [], _∷_}
 use Prim.Native.Nat.{ℕ, _+_}
 use native.Mathlib.Omega.{arith}
 use borrow.Author.Tests.{eqb-true, eqb-false}
@@ -16,42 +16,44 @@ use Rattle.run.specs.Answers.{answerOf}
 use Rattle.run.specs.declared.Refusal.{Refusal}
 use Rattle.run.specs.declared.Answer.{Answer}
 use Rattle.run.specs.declared.Answer.the-variants.{Finished, Refused}
-use Rattle.run.proofs.Answering.{refused, finished, changed, was-finished, was-number, was-refused}
+use Rattle.run.proofs.Answering.{refused, finished, was-finished, was-number}
 use Rattle.ledger.specs.Ledger.{viewOf, totalIn}
-use Rattle.sheet.specs.Calls.{sheetAnswer, sheetBytes}
-use Rattle.look.specs.Look.{unmarkedIn, lookRefusal, lookAnswer, lookBytes}
+use Rattle.sheet.specs.Calls.{sheetPostCall, sheetRefusal}
+use Rattle.look.specs.Look.{unmarkedIn, lookRefusal, lookCall}
 use Rattle.look.proofs.AsPosting.{wrong-size, same-number}
+use Rattle.run.specs.Call.{answered, bytesLeft, refusedBy, Does}
+use Rattle.run.proofs.Calls.{works, turned-down}
 
 -- the post would be taken
-pub would-take : (lim : Limits) (ledger s : List ℕ) (a : Answer) (v : ℕ) → answerOf a ≡ sheetAnswer lim ledger s → a ≡ Finished v
-    → sheetAnswer lim ledger s ≡ pos 0
-unfolding sheetAnswer
+pub would-take : (lim : Limits) (ledger s : List ℕ) (a : Answer) (v : ℕ) → answerOf a ≡ answered (sheetPostCall lim ledger s) → a ≡ Finished v
+    → answered (sheetPostCall lim ledger s) ≡ pos 0
+unfolding sheetPostCall refusedBy answered sheetRefusal
 would-take lim ledger s a v tested f = sym (finished _ 0 (was-finished a v _ 0 f tested .0))
 
 module _ (lim : Limits) (ledger s total : List ℕ) where
   -- ---- after the tests of posting
 
-  pub other-size : (length total ≡ 16 → ⊥) → negsuc 0 ≡ lookAnswer lim ledger s total
-  unfolding lookAnswer
+  pub other-size : (length total ≡ 16 → ⊥) → negsuc 0 ≡ answered (lookCall lim ledger s total)
+  unfolding lookCall refusedBy answered lookRefusal
   other-size h = refused _ 0 _ (wrong-size lim ledger s total h)
 
-  module _ (a : Answer) (tested : answerOf a ≡ sheetAnswer lim ledger s) where
-    pub would-remain : length total ≡ 16 → (v n : ℕ) → a ≡ Finished v → n ≡ unmarkedIn lim (sheetBytes lim ledger s) → pos n ≡ lookAnswer lim ledger s total
-    unfolding sheetAnswer lookAnswer
+  module _ (a : Answer) (tested : answerOf a ≡ answered (sheetPostCall lim ledger s)) where
+    pub would-remain : length total ≡ 16 → (v n : ℕ) → a ≡ Finished v → n ≡ unmarkedIn lim (bytesLeft (sheetPostCall lim ledger s) 0) → pos n ≡ answered (lookCall lim ledger s total)
+    unfolding sheetPostCall refusedBy answered sheetRefusal lookCall lookRefusal
     would-remain room v n f e = ap pos e ∙ finished _ _ (same-number lim ledger s total room ∙ was-finished a v _ 0 f tested .0)
 
-    pub would-refuse : length total ≡ 16 → (r : Refusal) → a ≡ Refused r → answerOf (Refused r) ≡ lookAnswer lim ledger s total
-    unfolding sheetAnswer lookAnswer
+    pub would-refuse : length total ≡ 16 → (r : Refusal) → a ≡ Refused r → answerOf (Refused r) ≡ answered (lookCall lim ledger s total)
+    unfolding sheetPostCall refusedBy answered sheetRefusal lookCall lookRefusal
     would-refuse room r f =
         let n = was-number a r _ 0 f tested in
         sym (n .2) ∙ refused _ (n .0) _ (same-number lim ledger s total room ∙ n .1)
 
   -- ---- after the tests of the look
 
-  module _ (a : Answer) (tested : answerOf a ≡ lookAnswer lim ledger s total) where
+  module _ (a : Answer) (tested : answerOf a ≡ answered (lookCall lim ledger s total)) where
     module _ (v : ℕ) (f : a ≡ Finished v) where
       no-number : lookRefusal lim (viewOf lim ledger) s total ≡ 0
-      unfolding lookAnswer
+      unfolding lookCall refusedBy answered lookRefusal
       no-number = was-finished a v _ _ f tested .0
 
       pub has-room : length total ≡ 16
@@ -61,17 +63,17 @@ module _ (lim : Limits) (ledger s total : List ℕ) where
           go true e = eqb-true (length total) 16 e
           go false e = let w = wrong-size lim ledger s total (eqb-false (length total) 16 e) in absurd (omega (arith, w, no-number))
 
-      pub takes : sheetAnswer lim ledger s ≡ pos 0
-      unfolding sheetAnswer
+      pub takes : answered (sheetPostCall lim ledger s) ≡ pos 0
+      unfolding sheetPostCall refusedBy answered sheetRefusal
       takes = sym (finished _ 0 (sym (same-number lim ledger s total has-room) ∙ no-number))
 
-      pub looked : (x : ℕ) (t : List ℕ) → x ≡ totalIn lim (sheetBytes lim ledger s) → t ≡ take 0 total ++ bytesOf 16 x ++ drop (0 + 16) total
-          → (answerOf (Finished v) ≡ lookAnswer lim ledger s total) × (t ≡ lookBytes lim ledger s total)
-      unfolding lookBytes
+      pub looked : (x : ℕ) (t : List ℕ) → x ≡ totalIn lim (bytesLeft (sheetPostCall lim ledger s) 0) → t ≡ take 0 total ++ bytesOf 16 x ++ drop (0 + 16) total
+          → Does (lookCall lim ledger s total) (pos v) (t ∷ [])
+      unfolding lookCall
       looked x t ex et =
-          (sym (ap answerOf f) ∙ tested, et ∙ over-all total 16 x has-room ∙ ap (bytesOf 16) ex ∙ changed _ _ total no-number)
+          let d = works (lookCall lim ledger s total) a tested v f in
+          (d .0, ap (λ (b : List ℕ). b ∷ []) (et ∙ over-all total 16 x has-room ∙ ap (bytesOf 16) ex) ∙ d .1)
 
-    pub not-looked : (r : Refusal) → a ≡ Refused r
-        → (answerOf (Refused r) ≡ lookAnswer lim ledger s total) × (total ≡ lookBytes lim ledger s total)
-    unfolding lookAnswer lookBytes
-    not-looked r f = (sym (ap answerOf f) ∙ tested, was-refused a r _ _ _ total f tested)
+    pub not-looked : (r : Refusal) → a ≡ Refused r → Does (lookCall lim ledger s total) (answerOf (Refused r)) (total ∷ [])
+    unfolding lookCall
+    not-looked r f = turned-down (lookCall lim ledger s total) a tested r f

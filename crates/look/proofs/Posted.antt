@@ -23,7 +23,7 @@ use Rattle.ledger.specs.Plain.{Plain, plainView, admit, encode, decode}
 use Rattle.ledger.proofs.RowSums.{total-adding}
 use Rattle.ledger.proofs.Image.{Good, view-encode, total-encode}
 use Rattle.sheet.specs.Sheet.{sheetPos, sheetBlocks, sheetCount, rowIn, blockIn, sumIn, entriesFrom, entries}
-use Rattle.sheet.specs.Calls.{enterEntry, sheetAnswer, sheetBytes}
+use Rattle.sheet.specs.Calls.{enterEntry, sheetPostCall, sheetRefusal}
 use Rattle.sheet.specs.Posts.{sheet, postRefusal, postEntries}
 use Rattle.sheet.proofs.Simulation.{Ready, entered, sheet-taken, post-ready}
 use Rattle.sheet.proofs.Singles.{Held, held}
@@ -33,6 +33,7 @@ use Rattle.sheet.proofs.Testing.{formed-length}
 use Rattle.look.specs.Look.{unmarkedOf, unmarkedIn}
 use Rattle.look.specs.Marks.{marksBelow}
 use Rattle.look.proofs.Counting.{all-less-marks, unmarked-all, by-bits}
+use Rattle.run.specs.Call.{answered, bytesLeft, refusedBy, allLeft}
 
 -- what is known of a sheet that is taken, and of the ledger that takes it
 pub record Taken (lim : Limits) (ledger b : List ℕ) : Type 0 where
@@ -40,8 +41,8 @@ pub record Taken (lim : Limits) (ledger b : List ℕ) : Type 0 where
   pub whole : length b ≡ 16 + 20 * sheetCount b
   pub few-blocks : blocksIn ledger ≤ 256
 
-pub is-taken : (lim : Limits) (ledger b : List ℕ) → sheetAnswer lim ledger b ≡ pos 0 → Taken lim ledger b
-unfolding sheetAnswer viewOf
+pub is-taken : (lim : Limits) (ledger b : List ℕ) → answered (sheetPostCall lim ledger b) ≡ pos 0 → Taken lim ledger b
+unfolding sheetPostCall refusedBy answered sheetRefusal viewOf
 is-taken lim ledger b e =
     let t = sheet-taken lim (viewOf lim ledger) b (not-refused _ 0 0 e .0) in
     let C = range-of lim (sheetPos b) (sheetBlocks b) (t .range) .C-high in
@@ -66,7 +67,7 @@ pub total-turn : (b : List ℕ) (e first i t x u : ℕ) → t ≡ (first + sum (
 total-turn b e first i t x u et ex eu =
     total-next modulus (bodyAt b e) first i t u et (eu ∙ ap (λ (k : ℕ). (t + k) % modulus) ex)
 
-module _ (lim : Limits) (fits : lim .last < 2 ^ 64) (ledger b : List ℕ) (bytes : AllBytes ledger) (taken : sheetAnswer lim ledger b ≡ pos 0) where
+module _ (lim : Limits) (fits : lim .last < 2 ^ 64) (ledger b : List ℕ) (bytes : AllBytes ledger) (taken : answered (sheetPostCall lim ledger b) ≡ pos 0) where
   holds : Held lim ledger b
   holds = held lim fits ledger b bytes taken
 
@@ -78,15 +79,15 @@ module _ (lim : Limits) (fits : lim .last < 2 ^ 64) (ledger b : List ℕ) (bytes
   pub all-in : Plain
   all-in = foldl admit (decode lim ledger) (entries b)
 
-  pub leaves : (sheetBytes lim ledger b ≡ encode lim all-in) × Good lim all-in
-  unfolding sheetAnswer sheetBytes all-in
+  pub leaves : (bytesLeft (sheetPostCall lim ledger b) 0 ≡ encode lim all-in) × Good lim all-in
+  unfolding sheetPostCall refusedBy answered sheetRefusal allLeft all-in
   leaves =
       let e = entered lim (decode lim ledger) (entries b) (holds .good) ready in (
         sym (changed _ _ ledger (not-refused _ 0 0 taken .0)) ∙ ap (λ (l : List ℕ). foldl (enterEntry lim) l (entries b)) (sym (holds .again)) ∙ e .0,
         e .1,
       )
 
-  unmarked-left : unmarkedIn lim ledger ≡ unmarkedIn lim (sheetBytes lim ledger b) + sheetCount b
+  unmarked-left : unmarkedIn lim ledger ≡ unmarkedIn lim (bytesLeft (sheetPostCall lim ledger b) 0) + sheetCount b
   unfolding all-in entries
   unmarked-left =
       ap (unmarkedIn lim) (sym (holds .again)) ∙ ap (unmarkedOf lim) (view-encode lim (decode lim ledger) (holds .good))
@@ -97,11 +98,11 @@ module _ (lim : Limits) (fits : lim .last < 2 ^ 64) (ledger b : List ℕ) (bytes
 
   -- all tickets of the run: those that would remain, the sheet's, and those marked before
   pub all-tickets : (r C e m : ℕ) → r ≡ lim .rows → C ≡ blocksIn ledger → e ≡ sheetCount b → m ≡ marksBelow lim ledger C (lim .rows)
-      → r * C ≡ unmarkedIn lim (sheetBytes lim ledger b) + e + m
+      → r * C ≡ unmarkedIn lim (bytesLeft (sheetPostCall lim ledger b) 0) + e + m
   unfolding viewOf
   all-tickets r C e m er eC ee em =
       ap₂ _*_ er eC ∙ sym (all-less-marks lim (viewOf lim ledger))
-      ∙ ap₂ _+_ (unmarked-left ∙ ap (λ (n : ℕ). unmarkedIn lim (sheetBytes lim ledger b) + n) (sym ee))
+      ∙ ap₂ _+_ (unmarked-left ∙ ap (λ (n : ℕ). unmarkedIn lim (bytesLeft (sheetPostCall lim ledger b) 0) + n) (sym ee))
       (sym (em ∙ ap (λ (n : ℕ). marksBelow lim ledger n (lim .rows)) eC ∙ by-bits lim ledger))
 
   -- ---- the total, ticket by ticket
@@ -129,7 +130,7 @@ module _ (lim : Limits) (fits : lim .last < 2 ^ 64) (ledger b : List ℕ) (bytes
       ∙ ap (λ (n : ℕ). (totalIn lim ledger + sum (sumIn b) 0 n) % modulus) (add-one i)
 
   pub total-left : (e first t : ℕ) → e ≡ sheetCount b → first ≡ totalIn lim ledger → t ≡ (first + sum (bodyAt b e) 0 e) % modulus
-      → t ≡ totalIn lim (sheetBytes lim ledger b)
+      → t ≡ totalIn lim (bytesLeft (sheetPostCall lim ledger b) 0)
   unfolding after all-in entries sumIn
   total-left e first t counted ef et =
       et ∙ ap₂ (λ (m n : ℕ). (m + sum (bodyAt b n) 0 n) % modulus) ef counted

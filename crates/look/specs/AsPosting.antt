@@ -9,26 +9,27 @@ use Rattle.algebra.specs.Sum.{sum}
 use Rattle.words.specs.Bytes.{bytesOf}
 use Rattle.run.specs.Run.{Limits}
 use Rattle.ledger.specs.Ledger.{View, totalIn}
-use Rattle.sheet.specs.Calls.{sheetAnswer, sheetBytes}
-use Rattle.look.specs.Look.{unmarkedOf, unmarkedIn, lookAnswer, lookBytes}
+use Rattle.sheet.specs.Calls.{sheetPostCall}
+use Rattle.look.specs.Look.{unmarkedOf, unmarkedIn, lookCall}
+use Rattle.run.specs.Call.{answered, bytesLeft}
 
 -- What a look at the sheet s gives beside a post of s, with 16 bytes lent for the total.
 pub record AsPosting (lim : Limits) (ledger s total : List ℕ) : Type 0 where
   -- it is refused with n exactly where the post is, and then the total's bytes stay
-  pub refused : (n : ℕ) → 0 < n → sheetAnswer lim ledger s ≡ negℤ (pos n)
-      → (lookAnswer lim ledger s total ≡ negℤ (pos n)) × (lookBytes lim ledger s total ≡ total)
-  pub only-refused : (n : ℕ) → 0 < n → lookAnswer lim ledger s total ≡ negℤ (pos n) → sheetAnswer lim ledger s ≡ negℤ (pos n)
+  pub refused : (n : ℕ) → 0 < n → answered (sheetPostCall lim ledger s) ≡ negℤ (pos n)
+      → (answered (lookCall lim ledger s total) ≡ negℤ (pos n)) × (bytesLeft (lookCall lim ledger s total) 0 ≡ total)
+  pub only-refused : (n : ℕ) → 0 < n → answered (lookCall lim ledger s total) ≡ negℤ (pos n) → answered (sheetPostCall lim ledger s) ≡ negℤ (pos n)
   -- otherwise count and total are those of the bytes that the post leaves
-  pub taken : sheetAnswer lim ledger s ≡ pos 0
-      → (lookAnswer lim ledger s total ≡ pos (unmarkedIn lim (sheetBytes lim ledger s)))
-      × (lookBytes lim ledger s total ≡ bytesOf 16 (totalIn lim (sheetBytes lim ledger s)))
-  pub only-taken : (n : ℕ) → lookAnswer lim ledger s total ≡ pos n → sheetAnswer lim ledger s ≡ pos 0
+  pub taken : answered (sheetPostCall lim ledger s) ≡ pos 0
+      → (answered (lookCall lim ledger s total) ≡ pos (unmarkedIn lim (bytesLeft (sheetPostCall lim ledger s) 0)))
+      × (bytesLeft (lookCall lim ledger s total) 0 ≡ bytesOf 16 (totalIn lim (bytesLeft (sheetPostCall lim ledger s) 0)))
+  pub only-taken : (n : ℕ) → answered (lookCall lim ledger s total) ≡ pos n → answered (sheetPostCall lim ledger s) ≡ pos 0
 
 pub record LooksAsPosted (lim : Limits) : Type 0 where
   pub as-posting : (ledger s total : List ℕ) → length total ≡ 16 → AsPosting lim ledger s total
   -- another size of the total is refusal 1, and its bytes stay
   pub other-size : (ledger s total : List ℕ) → (length total ≡ 16 → ⊥)
-      → (lookAnswer lim ledger s total ≡ negℤ (pos 1)) × (lookBytes lim ledger s total ≡ total)
+      → (answered (lookCall lim ledger s total) ≡ negℤ (pos 1)) × (bytesLeft (lookCall lim ledger s total) 0 ≡ total)
 
 -- how many tickets are marked
 unfoldable pub marksOf : Limits → View → ℕ

@@ -1,17 +1,18 @@
 -- A look at a sheet before it is posted: it is refused as posting would be; otherwise its answer and its total are those of a copy of the ledger
 -- with the sheet posted onto it. Document 02, slip 6.
+use mathlib.Core.Path.{refl}
 use mathlib.Core.Bool.{Bool, not, cond, _||_}
 use mathlib.Core.List.{List, [], _∷_}
 use Prim.Native.Nat.{ℕ}
 use lib.Dec.{eqb}
-use lib.IntN.{ℤ}
 use lib.ListN.{length}
 use Rattle.algebra.specs.Sum.{sum}
 use Rattle.words.specs.Bytes.{bytesOf}
-use Rattle.run.specs.Refusal.{Test, _⇐_, refusal, answer}
+use Rattle.run.specs.Refusal.{Test, _⇐_, refusal}
+use Rattle.run.specs.Call.{Call, slice, bytesLeft}
 use Rattle.run.specs.Run.{Limits}
 use Rattle.ledger.specs.Ledger.{View, viewOf, totalIn}
-use Rattle.sheet.specs.Calls.{sheetTests, sheetBytes}
+use Rattle.sheet.specs.Calls.{sheetTests, sheetPostCall}
 
 -- how many tickets of a run are not marked, by what is seen of its ledger
 unfoldable pub unmarkedOf : Limits → View → ℕ
@@ -32,11 +33,11 @@ lookTests lim v s total = alsoOfSize (not (eqb (length total) 16)) (sheetTests l
 unfoldable pub lookRefusal : Limits → View → List ℕ → List ℕ → ℕ
 lookRefusal lim v s total = refusal (lookTests lim v s total)
 
--- the number of unmarked tickets that would remain
-unfoldable pub lookAnswer : Limits → List ℕ → List ℕ → List ℕ → ℤ
-lookAnswer lim ledger s total = answer (lookRefusal lim (viewOf lim ledger) s total) (unmarkedIn lim (sheetBytes lim ledger s))
-
--- the total that the row sums would have
-unfoldable pub lookBytes : Limits → List ℕ → List ℕ → List ℕ → List ℕ
-lookBytes lim ledger s total =
-    cond (eqb (lookRefusal lim (viewOf lim ledger) s total) 0) (bytesOf 16 (totalIn lim (sheetBytes lim ledger s))) total
+-- the number of unmarked tickets that would remain, and the total that the row sums would have
+unfoldable pub lookCall : Limits → List ℕ → List ℕ → List ℕ → Call
+lookCall lim ledger s total = record {
+  tests = lookTests lim (viewOf lim ledger) s total;
+  in-order = refl;
+  value = unmarkedIn lim (bytesLeft (sheetPostCall lim ledger s) 0);
+  slices = slice total (bytesOf 16 (totalIn lim (bytesLeft (sheetPostCall lim ledger s) 0))) ∷ [];
+}

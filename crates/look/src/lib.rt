@@ -3,6 +3,7 @@ use run::Answer;
 use run::Refusal;
 use series::Series;
 use words::Wide;
+ghost use mathlib.Core.List.{[], _∷_};
 ghost use mathlib.Core.Path.{_≡_};
 ghost use Prim.Native.Nat.{_<_, _≤_};
 ghost use lib.IntN.{pos};
@@ -12,9 +13,10 @@ ghost use Rattle.series.specs.Names.{formulaOf};
 ghost use Rattle.series.specs.Series.{rowCount};
 ghost use Rattle.run.specs.Run.{limitsOf};
 ghost use Rattle.run.specs.Answers.{answerOf};
+ghost use Rattle.run.specs.Call.{Does, answered, bytesLeft};
 ghost use Rattle.ledger.specs.Ledger.{ledgerSize, totalIn};
-ghost use Rattle.sheet.specs.Calls.{sheetAnswer, sheetBytes};
-ghost use Rattle.look.specs.Look.{unmarkedIn, lookAnswer, lookBytes};
+ghost use Rattle.sheet.specs.Calls.{sheetPostCall};
+ghost use Rattle.look.specs.Look.{unmarkedIn, lookCall};
 ghost use Rattle.look.specs.Marks.{rowMarks, marksBelow};
 
 // How many of a row's first c blocks are marked.
@@ -49,8 +51,8 @@ pub fn marks(f: Series, s: &[u8], c: usize) -> usize
 
 // The number of unmarked tickets that would remain: all of the run, less those marked now, less the sheet's.
 pub fn remaining(f: Series, ledger: &[u8], s: &[u8]) -> u32
-    requires { ⌜ sheetAnswer (limitsOf (formulaOf f)) (now ledger) (now s) ≡ pos 0 ⌝ }
-    ensures { λ r. ⌜ r ≡ unmarkedIn (limitsOf (formulaOf f)) (sheetBytes (limitsOf (formulaOf f)) (now (ledger .entry)) (now (s .entry))) ⌝ }
+    requires { ⌜ answered (sheetPostCall (limitsOf (formulaOf f)) (now ledger) (now s)) ≡ pos 0 ⌝ }
+    ensures { λ r. ⌜ r ≡ unmarkedIn (limitsOf (formulaOf f)) (bytesLeft (sheetPostCall (limitsOf (formulaOf f)) (now (ledger .entry)) (now (s .entry))) 0) ⌝ }
 {
     let c = words::get(ledger, 8, 2) as usize;
     let tickets = series::limits::row_count(f) * c;
@@ -61,8 +63,8 @@ pub fn remaining(f: Series, ledger: &[u8], s: &[u8]) -> u32
 
 // The total that the row sums would have.
 pub fn total_after(f: Series, ledger: &[u8], s: &[u8]) -> Wide
-    requires { ⌜ sheetAnswer (limitsOf (formulaOf f)) (now ledger) (now s) ≡ pos 0 ⌝ }
-    ensures { λ r. ⌜ joined (r .hi) (r .lo) ≡ totalIn (limitsOf (formulaOf f)) (sheetBytes (limitsOf (formulaOf f)) (now (ledger .entry)) (now (s .entry))) ⌝ }
+    requires { ⌜ answered (sheetPostCall (limitsOf (formulaOf f)) (now ledger) (now s)) ≡ pos 0 ⌝ }
+    ensures { λ r. ⌜ joined (r .hi) (r .lo) ≡ totalIn (limitsOf (formulaOf f)) (bytesLeft (sheetPostCall (limitsOf (formulaOf f)) (now (ledger .entry)) (now (s .entry))) 0) ⌝ }
 {
     let e = sheet::contents::count(s);
     let mut total = ledger::sums::total(ledger::sums::get(f, ledger));
@@ -76,7 +78,7 @@ pub fn total_after(f: Series, ledger: &[u8], s: &[u8]) -> Wide
 
 // What the refusal table says of a look, its tests in the order of their numbers; or the number of unmarked tickets that would remain.
 pub fn test_look(f: Series, ledger: &[u8], s: &[u8], total: &[u8]) -> Answer
-    ensures { λ r. ⌜ answerOf r ≡ lookAnswer (limitsOf (formulaOf f)) (now (ledger .entry)) (now (s .entry)) (now (total .entry)) ⌝ }
+    ensures { λ r. ⌜ answerOf r ≡ answered (lookCall (limitsOf (formulaOf f)) (now (ledger .entry)) (now (s .entry)) (now (total .entry))) ⌝ }
 {
     if total.len() != 16 {
         return Answer::Refused(Refusal::WrongSize);
@@ -89,8 +91,7 @@ pub fn test_look(f: Series, ledger: &[u8], s: &[u8], total: &[u8]) -> Answer
 
 // Looks at a sheet. All tests are done before a byte is written.
 pub fn look(f: Series, ledger: &[u8], s: &[u8], total: &mut [u8]) -> Answer
-    ensures answers { λ r. ⌜ answerOf r ≡ lookAnswer (limitsOf (formulaOf f)) (now (ledger .entry)) (now (s .entry)) (now (total .entry)) ⌝ }
-    ensures leaves { λ _. ⌜ now (total .exit) ≡ lookBytes (limitsOf (formulaOf f)) (now (ledger .entry)) (now (s .entry)) (now (total .entry)) ⌝ }
+    ensures { λ r. ⌜ Does (lookCall (limitsOf (formulaOf f)) (now (ledger .entry)) (now (s .entry)) (now (total .entry))) (answerOf r) (now (total .exit) ∷ []) ⌝ }
 {
     match test_look(f, ledger, s, total) {
         Answer::Finished(rest) => {

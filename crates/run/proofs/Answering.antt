@@ -4,12 +4,12 @@
 use mathlib.Core.Path.{_≡_, refl, sym, ap, _∙_}
 use mathlib.Core.Bool.{Bool, true, false, cond}
 use mathlib.Core.List.{List, [], _∷_, _++_}
-use Prim.Native.Nat.{ℕ, zero, suc, _<_}
+use Prim.Native.Nat.{ℕ, zero, suc, _<_, _≤_}
 use native.Mathlib.Omega.{arith}
 use borrow.Author.Tests.{ne-eqb}
-use lib.Dec.{eqb, lit<}
+use lib.Dec.{eqb, lit<, lit≤}
 use lib.IntN.{pos, negsuc, negℤ}
-use Rattle.run.specs.Refusal.{Test, _⇐_, refusal, answer}
+use Rattle.run.specs.Refusal.{Test, lastNumber, _⇐_, refusal, answer}
 use Rattle.run.specs.Answers.{numberOf, answerOf}
 use Rattle.run.specs.declared.Refusal.{Refusal}
 use Rattle.run.specs.declared.Refusal.the-variants.{WrongSize, OutOfRange, Malformed, NoTicket, OutOfOrder, OtherRun, Marked, Unmarked, Unsettled}
@@ -64,17 +64,17 @@ changed number new old e = rw e refl
 
 -- ---- from the answer
 
--- the table's numbers
-pub numbered : (r : Refusal) → (0 < numberOf r) × (numberOf r < 10)
-numbered WrongSize = (lit< tt, lit< tt)
-numbered OutOfRange = (lit< tt, lit< tt)
-numbered Malformed = (lit< tt, lit< tt)
-numbered NoTicket = (lit< tt, lit< tt)
-numbered OutOfOrder = (lit< tt, lit< tt)
-numbered OtherRun = (lit< tt, lit< tt)
-numbered Marked = (lit< tt, lit< tt)
-numbered Unmarked = (lit< tt, lit< tt)
-numbered Unsettled = (lit< tt, lit< tt)
+-- every refusal has a number of the table
+pub in-table : (r : Refusal) → (0 < numberOf r) × (numberOf r ≤ lastNumber)
+in-table WrongSize = (lit< tt, lit≤ tt)
+in-table OutOfRange = (lit< tt, lit≤ tt)
+in-table Malformed = (lit< tt, lit≤ tt)
+in-table NoTicket = (lit< tt, lit≤ tt)
+in-table OutOfOrder = (lit< tt, lit≤ tt)
+in-table OtherRun = (lit< tt, lit≤ tt)
+in-table Marked = (lit< tt, lit≤ tt)
+in-table Unmarked = (lit< tt, lit≤ tt)
+in-table Unsettled = (lit< tt, lit≤ tt)
 
 below-zero : (n value : ℕ) → 0 < n → negℤ (pos n) ≡ pos value → ⊥
 below-zero zero value h e = omega arith
@@ -102,9 +102,5 @@ was-finished a v number value f e =
 pub was-number : (a : Answer) (r : Refusal) (number value : ℕ) → a ≡ Refused r → answerOf a ≡ answer number value
     → (n : ℕ) × (number ≡ suc n) × (negsuc n ≡ answerOf (Refused r))
 unfolding answer
-was-number a r zero value f e = absurd (below-zero (numberOf r) value (numbered r .0) (sym (ap answerOf f) ∙ e))
+was-number a r zero value f e = absurd (below-zero (numberOf r) value (in-table r .0) (sym (ap answerOf f) ∙ e))
 was-number a r (suc n) value f e = (n, refl, sym e ∙ ap answerOf f)
-
-pub was-refused : (a : Answer) (r : Refusal) (number value : ℕ) (new old : List ℕ) → a ≡ Refused r → answerOf a ≡ answer number value
-    → old ≡ cond (eqb number 0) new old
-was-refused a r number value new old f e = let n = was-number a r number value f e in kept number (n .0) new old (n .1)

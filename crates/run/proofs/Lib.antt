@@ -3,3 +3,4 @@ pub mod Range
 pub mod Blocks
 pub mod Positions
 pub mod Smallest
+pub mod Calls

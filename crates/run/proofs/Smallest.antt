@@ -8,11 +8,10 @@ use native.Mathlib.Omega.{arith}
 use borrow.Author.Tests.{ltb-true}
 use lib.Dec.{ltb}
 use Rattle.algebra.proofs.Booleans.{and-left, and-right, not-both}
-use Rattle.run.specs.Refusal.{Test, refusal, ascendAbove, ascend, Applies, Smallest}
+use Rattle.run.specs.Refusal.{Test, refusal, ascendAbove, Applies, Smallest}
 
 -- every number of a list that ascends above n is above n
 above : (n : ℕ) (ts : List Test) → ascendAbove n ts ≡ true → (t : Test) → List·Memᴰ t ts → n < t .number
-unfolding ascendAbove
 above n [] a t m = absurd (List·Memᴰ·not-nil m)
 above n (u ∷ ts) a t (List·Memᴰ·head e) =
     subst (λ (x : Test). n < x .number) (sym e) (ltb-true _ _ (and-left (ltb n (u .number)) _ a))
@@ -41,7 +40,7 @@ number-above : (n : ℕ) (ts : List Test) → ascendAbove n ts ≡ true → (m :
 number-above n ts a m x = subst (λ (k : ℕ). n < k) (x .number-is) (above n ts a (x .test) (x .listed))
 
 from : (n : ℕ) (ts : List Test) → ascendAbove n ts ≡ true → Smallest ts (refusal ts)
-unfolding refusal ascendAbove
+unfolding refusal
 from n [] a = record {
   applies = λ f. absurd (f refl);
   least = λ m x. omega arith;
@@ -70,5 +69,5 @@ from n (t ∷ ts) a = go (t .applies) refl (from (t .number) ts rest)
       only-none = λ f. s .only-none (λ m x. f m (later x));
     }
 
-pub smallest : (ts : List Test) → ascend ts ≡ true → Smallest ts (refusal ts)
+pub smallest : (ts : List Test) → ascendAbove 0 ts ≡ true → Smallest ts (refusal ts)
 smallest ts a = from 0 ts a

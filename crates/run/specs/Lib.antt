@@ -1,3 +1,4 @@
 pub mod Refusal
 pub mod Run
 pub mod Answers
+pub mod Call

@@ -3,8 +3,12 @@ use mathlib.Core.Path.{_≡_}
 use mathlib.Core.Bool.{Bool, true, cond, _&&_}
 use mathlib.Core.List.{List, [], _∷_, List·Memᴰ}
 use Prim.Native.Nat.{ℕ, zero, suc, _≤_}
-use lib.Dec.{ltb}
+use lib.Dec.{leb, ltb}
 use lib.IntN.{ℤ, pos, negsuc}
+
+-- the last number of the table
+abbrev pub lastNumber : ℕ
+lastNumber = 9
 
 -- A condition with its number.
 pub record Test : Type 0 where
@@ -23,13 +27,18 @@ refusal (t ∷ ts) = cond (t .applies) (t .number) (refusal ts)
 -- ---- "the smallest number that applies, and only where its condition holds"
 
 -- the numbers ascend strictly, each above n
-unfoldable pub ascendAbove : ℕ → List Test → Bool
+abbrev pub ascendAbove : ℕ → List Test → Bool
 ascendAbove n [] = true
 ascendAbove n (t ∷ ts) = ltb n (t .number) && ascendAbove (t .number) ts
 
--- the test of a list of tests: its numbers ascend strictly from 1 on
-abbrev pub ascend : List Test → Bool
-ascend ts = ascendAbove 0 ts
+-- the numbers are at most n
+abbrev pub upTo : ℕ → List Test → Bool
+upTo n [] = true
+upTo n (t ∷ ts) = leb (t .number) n && upTo n ts
+
+-- the rule of a list of tests: its numbers ascend strictly from 1 on, and are numbers of the table
+abbrev pub numbered : List Test → Bool
+numbered ts = ascendAbove 0 ts && upTo lastNumber ts
 
 -- n is the number of a test in the list whose condition holds
 pub record Applies (ts : List Test) (n : ℕ) : Type 0 where

@@ -14,10 +14,12 @@ use Rattle.algebra.proofs.Integers.{residue-is, diff-sub, turns, back}
 use Rattle.words.specs.Bytes.{bytesOf}
 use Rattle.series.specs.Series.{Formula, plus, minus, modulus, rangeSum}
 use Rattle.series.proofs.RangeSums.{range-sum-lt}
-use Rattle.run.specs.Refusal.{refusal, answer}
+use Rattle.run.specs.Refusal.{refusal}
 use Rattle.run.specs.Run.{limitsOf, inRange, isTicket, ticketSum}
-use Rattle.run.proofs.Answering.{changed}
-use Rattle.ticket.specs.Work.{isSized, bothSized, partRefusal, partAnswer, workRefusal, workAnswer, workBytes}
+use Rattle.run.specs.Call.{refusedBy}
+use Rattle.run.proofs.Calls.{leaves, finishes}
+use Rattle.ticket.specs.Work.{isSized, bothSized, workCall}
+use Rattle.ticket.specs.declared.Part.the-variants.{Whole}
 use Rattle.ticket.proofs.Parts.{whole-sum}
 use Rattle.sheet.specs.RoundTrip.{Fits}
 use Rattle.sheet.proofs.RoundTrip.{written-reads-back, accepted-is-written}
@@ -42,19 +44,14 @@ module _ (F : Formula) (p C row block : ℕ) where
   unfolding ticketSum rangeSum sideOf
   signed = residue-back modulus (sideOf F plus p C row block) (sideOf F minus p C row block) (pow-pos 128)
 
-  not-refused : (out squarings : List ℕ) → length out ≡ 16 → length squarings ≡ 16 → inRange (limitsOf F) p C ≡ true
-      → isTicket (limitsOf F) C row block ≡ true → workRefusal F p C row block out squarings ≡ 0
-  unfolding workRefusal partRefusal bothSized isSized refusal
-  not-refused out squarings l m r t = rw (l, m, r, t) refl
-
   worked : (out squarings : List ℕ) → length out ≡ 16 → length squarings ≡ 16 → inRange (limitsOf F) p C ≡ true
       → isTicket (limitsOf F) C row block ≡ true → Worked F p C row block out squarings
-  unfolding workAnswer workRefusal partAnswer workBytes answer
+  unfolding workCall refusedBy bothSized isSized refusal
   worked out squarings l m r t =
-      let z : workRefusal F p C row block out squarings ≡ 0 = not-refused out squarings l m r t in
+      let f = finishes (workCall F Whole p C row block out squarings) (rw (l, m, r, t) refl) in
       record {
-        answered = rw z refl;
-        bytes-are = sym (changed _ _ out z) ∙ ap (bytesOf 16) (whole-sum F p C row block);
+        answers = sym (f .0);
+        bytes-are = sym (leaves (workCall F Whole p C row block out squarings) (f .1) 0) ∙ ap (bytesOf 16) (whole-sum F p C row block);
         small = ticket-sum-lt;
         signed = signed;
       }

@@ -23,10 +23,11 @@ use Rattle.interval.proofs.Digits.{at-most, settled-greatest}
 use Rattle.run.specs.Run.{limitsOf}
 use Rattle.run.proofs.Answering.{not-refused, finished, changed}
 use Rattle.ledger.specs.Ledger.{View, viewOf, totalIn}
-use Rattle.closing.specs.Closing.{lowOf, highOf, settledAt, digitsAt, closeRefusal, closingAnswer, closingBytes, closeAnswer, closeBytes}
+use Rattle.closing.specs.Closing.{lowOf, highOf, settledAt, digitsAt, closeBy}
 use Rattle.closing.proofs.Closing.{low-in, settled-few, nine-alone}
 use Rattle.closing.proofs.TopDigits.{sub-pos, fewer-digits, length-low}
 use Rattle.settlement.specs.EveryTerm.{answerBefore, Keeps, NoWider}
+use Rattle.run.specs.Call.{answered, allLeft, refusedBy}
 
 -- no rule charges more than every term
 fewer-charges : (R : Rule) (F : Formula) (side : Side) (p K : ℕ) → charges R F side p K ≤ charges everyTerm F side p K
@@ -132,8 +133,8 @@ module _ (F : Formula) (s digits : List ℕ) (n : ℕ) (answered : answerBefore 
   abbrev total : ℕ
   total = totalIn (limitsOf F) s
 
-  was : (closeRefusal everyTerm F seen total digits ≡ 0) × (settledAt everyTerm F (seen .p) total ≡ n)
-  unfolding closingAnswer
+  was : (refusedBy (closeBy everyTerm F seen total digits) ≡ 0) × (settledAt everyTerm F (seen .p) total ≡ n)
+  unfolding closeBy answered
   was = not-refused _ _ n answered
 
   -- a digit is settled where 9 does not apply
@@ -142,7 +143,7 @@ module _ (F : Formula) (s digits : List ℕ) (n : ℕ) (answered : answerBefore 
       let q = sym (was .0) ∙ nine-alone everyTerm everyTerm F seen total total digits (was .0) ∙ ap (λ (m : ℕ). cond (eqb m 0) 9 0) z in
       omega (arith, q)
 
-  not-now : closeRefusal isCharged F seen total digits ≡ 0
+  not-now : refusedBy (closeBy isCharged F seen total digits) ≡ 0
   unfolding d e
   not-now =
       let h = no-fewer F (seen .p) total some in
@@ -150,7 +151,7 @@ module _ (F : Formula) (s digits : List ℕ) (n : ℕ) (answered : answerBefore 
       ∙ ap (λ (b : Bool). cond b 9 0) (ne-eqb (settledAt isCharged F (seen .p) total) 0 (λ z. some (omega (arith, h, z))))
 
   keeps : Keeps F s digits n
-  unfolding closeAnswer closeBytes closingAnswer closingBytes d e
+  unfolding closeBy answered allLeft d e
   keeps = record {
     now = settledAt isCharged F (seen .p) total;
     no-fewer = subst (λ (m : ℕ). m ≤ settledAt isCharged F (seen .p) total) (was .1) (no-fewer F (seen .p) total some);

@@ -11,6 +11,7 @@ use lib.ListN.{take, drop}
 use Rattle.algebra.specs.Sum.{sum}
 use Rattle.algebra.specs.Whole.{residue, sameℤ}
 use Rattle.series.specs.Series.{Formula, size, isAdded, termCount, onSide, rowSum, overRows, sideSum, sizesSum}
+use Rattle.series.specs.Fitting.{Position}
 use Rattle.series.specs.Names.{formulaOf}
 use Rattle.series.specs.declared.Series.{Series}
 use Rattle.series.specs.declared.Series.the-variants.{Bellard, Check}
@@ -20,15 +21,17 @@ use Rattle.interval.proofs.Denominator.{whole-exists}
 use Rattle.interval.proofs.Digits.{settled-greatest}
 use Rattle.interval.proofs.AnyRows.{any-rows}
 use Rattle.run.specs.Run.{limitsOf}
+use Rattle.run.proofs.Positions.{position}
 use Rattle.run.proofs.Range.{range-of}
 use Rattle.ledger.specs.Ledger.{fresh}
 use Rattle.sheet.specs.Posts.{postsBytes}
-use Rattle.closing.specs.Closing.{lowOf, highOf, settledAt, digitsAt, closeAnswer, closeBytes}
+use Rattle.closing.specs.Closing.{lowOf, highOf, settledAt, digitsAt, closeCall}
 use Rattle.settlement.specs.Settlement.{Closed, ClosesWith, finalTotal}
 use Rattle.settlement.specs.Figures.{firstDigits, FirstDigits}
 use Rattle.settlement.specs.Runs.{Asked}
 use Rattle.settlement.proofs.Partition.{all-tickets}
 use Rattle.settlement.proofs.Runs.{every-formula, asked}
+use Rattle.run.specs.Call.{answered, bytesLeft}
 
 module _ (F : Formula) (premises : Asked F) (p d : ℕ) (digits : List ℕ) (some : 0 < d)
     (count-is : settledAt isCharged F p (sizesSum F p (termCount F p)) ≡ d)
@@ -47,15 +50,15 @@ module _ (F : Formula) (premises : Asked F) (p d : ℕ) (digits : List ℕ) (som
   greatest = subst (Greatest lo hi) count-is (settled-greatest lo hi (omega (arith, some, count-is)))
 
   -- the digits of the exact sum at length K, and so at every length
-  exact-digits : (s out : List ℕ) → Closed F p lo hi s out → (closeAnswer F s out ≡ pos d) × (closeBytes F s out ≡ digits ++ drop d out)
+  exact-digits : Position F p → (s out : List ℕ) → Closed F p lo hi s out → (answered (closeCall F s out) ≡ pos d) × (bytesLeft (closeCall F s out) 0 ≡ digits ++ drop d out)
   unfolding digitsAt lo hi K
-  exact-digits s out c =
+  exact-digits at s out c =
       let w = whole-exists F p K (premises .positive) in
       let r = c .settled d greatest in (
         r .0,
         r .1 (w .0) K (w .1) (le-refl K) (w .2)
             ∙ ap (λ (l : List ℕ). l ++ drop d out)
-            (any-rows isCharged F p K (premises .positive) (premises .rest p) .digits d (greatest .settles) (w .0) K (w .1) (le-refl K) (w .2) ∙ digits-are),
+            (any-rows isCharged F p K (premises .positive) (premises .rest p at) .digits d (greatest .settles) (w .0) K (w .1) (le-refl K) (w .2) ∙ digits-are),
       )
 
   pub closes-with : ClosesWith F p d digits
@@ -64,7 +67,7 @@ module _ (F : Formula) (premises : Asked F) (p d : ℕ) (digits : List ℕ) (som
       let s = every-formula F premises .demand3 p C range posts in
       let r = range-of (limitsOf F) p C range in
       let e : finalTotal F p C posts ≡ sizesSum F p K = s .total f ∙ all-tickets F p C (r .C-low) in
-      exact-digits (postsBytes (limitsOf F) (fresh (limitsOf F) p C) posts) out
+      exact-digits (position F p C range) (postsBytes (limitsOf F) (fresh (limitsOf F) p C) posts) out
       (subst (λ (t : ℕ). Closed F p (lowOf isCharged F p t) (highOf isCharged F p t) (postsBytes (limitsOf F) (fresh (limitsOf F) p C) posts) out) e (s .closing f out room))
 
 -- at position 1, worked out by antt from the rows of either formula

@@ -10,7 +10,7 @@ use native.Mathlib.Numerals.{add-one}
 use native.Mathlib.Omega.{arith}
 use lib.Dec.{lit<}
 use lib.IntN.{pos}
-use Rattle.words.specs.Bytes.{valueOf}
+use Rattle.words.specs.Bytes.{bytesOf, valueOf}
 use Rattle.words.proofs.Bytes.{value-bytes}
 use Rattle.series.specs.Series.{Formula, Row, rowAt, termCount, rangeSum, modulus}
 use Rattle.series.specs.Halves.{byHalves}
@@ -20,10 +20,12 @@ use Rattle.series.proofs.Numbers.{count-grows}
 use Rattle.series.proofs.RangeSums.{range-sum-lt, split}
 use Rattle.series.proofs.ByHalves.{same-sum}
 use Rattle.run.specs.Run.{limitsOf, inRange, isTicket, bound}
-use Rattle.run.proofs.Answering.{changed, not-refused}
+use Rattle.run.proofs.Answering.{not-refused}
+use Rattle.run.proofs.Calls.{leaves, finishes}
 use Rattle.run.proofs.Range.{range-of, ticket-block}
-use Rattle.ticket.specs.Parts.{cut, partFirst, partEnd, partCount, partSum}
-use Rattle.ticket.specs.Work.{bothSized, partAnswer, workRefusal, workAnswer, workBytes}
+use Rattle.ticket.specs.Parts.{cut, partFirst, partEnd, partCount, partSum, partSquarings}
+use Rattle.run.specs.Call.{refusedBy, answered, allLeft, bytesLeft}
+use Rattle.ticket.specs.Work.{bothSized, testCall, workCall}
 use Rattle.ticket.specs.declared.Part.{Part}
 use Rattle.ticket.specs.declared.Part.the-variants.{Whole, Lower, Upper}
 use Rattle.ticket.proofs.Parts.{rising, within, meet}
@@ -58,28 +60,31 @@ module _ (F : Formula) (p C row block : ℕ) where
   part-sum-lt part = range-sum-lt F p _ _ _
 
   -- where a call answers 0, no test applied, and it was handed a ticket
-  pub taken : (out squarings : List ℕ) → workAnswer F p C row block out squarings ≡ pos 0
-      → (workRefusal F p C row block out squarings ≡ 0) × (inRange (limitsOf F) p C ≡ true) × (isTicket (limitsOf F) C row block ≡ true)
-  unfolding workAnswer partAnswer workRefusal
-  taken out squarings a =
-      let none = not-refused _ _ _ a .0 in
-      let passed = all-passed F p C row block (bothSized out squarings) none in
-      (none, passed .1, passed .2)
+  module _ (part : Part) (out squarings : List ℕ) (a : answered (workCall F part p C row block out squarings) ≡ pos 0) where
+    none : refusedBy (workCall F part p C row block out squarings) ≡ 0
+    unfolding answered
+    none = not-refused _ _ _ a .0
 
-  -- it left the bytes of the part's sum
-  left : (part : Part) (out squarings : List ℕ) → workAnswer F p C row block out squarings ≡ pos 0
-      → valueOf (workBytes F part p C row block out squarings) ≡ partSum F part p C row block
-  unfolding workBytes
-  left part out squarings a =
-      ap valueOf (sym (changed _ _ out (taken out squarings a .0))) ∙ value-bytes 16 (partSum F part p C row block) (part-sum-lt part)
+    pub taken : (inRange (limitsOf F) p C ≡ true) × (isTicket (limitsOf F) C row block ≡ true)
+    unfolding testCall workCall refusedBy
+    taken = let passed = all-passed F p C row block (bothSized out squarings) none in (passed .1, passed .2)
 
-  bytes : (lower upper whole l u w : List ℕ) → workAnswer F p C row block lower l ≡ pos 0
-      → workAnswer F p C row block upper u ≡ pos 0 → workAnswer F p C row block whole w ≡ pos 0
-      → (valueOf (workBytes F Lower p C row block lower l) + valueOf (workBytes F Upper p C row block upper u)) % modulus
-      ≡ valueOf (workBytes F Whole p C row block whole w)
+    -- it left the bytes of the part's sum, and of its squarings
+    pub wrote : (bytesOf 16 (partSum F part p C row block) ≡ bytesLeft (workCall F part p C row block out squarings) 0)
+        × (bytesOf 16 (partSquarings F part p C row block) ≡ bytesLeft (workCall F part p C row block out squarings) 1)
+    unfolding workCall allLeft
+    wrote = let w = workCall F part p C row block out squarings in let f = finishes w none .1 in (leaves w f 0, leaves w f 1)
+
+    sum-left : valueOf (bytesLeft (workCall F part p C row block out squarings) 0) ≡ partSum F part p C row block
+    sum-left = ap valueOf (sym (wrote .0)) ∙ value-bytes 16 (partSum F part p C row block) (part-sum-lt part)
+
+  bytes : (lower upper whole l u w : List ℕ) → answered (workCall F Lower p C row block lower l) ≡ pos 0
+      → answered (workCall F Upper p C row block upper u) ≡ pos 0 → answered (workCall F Whole p C row block whole w) ≡ pos 0
+      → (valueOf (bytesLeft (workCall F Lower p C row block lower l) 0) + valueOf (bytesLeft (workCall F Upper p C row block upper u) 0)) % modulus
+      ≡ valueOf (bytesLeft (workCall F Whole p C row block whole w) 0)
   bytes lower upper whole l u w a b c =
-      let t = taken lower l a in
-      ap₂ (λ (x y : ℕ). (x + y) % modulus) (left Lower lower l a) (left Upper upper u b) ∙ sums (t .1) (t .2) ∙ sym (left Whole whole w c)
+      let t = taken Lower lower l a in
+      ap₂ (λ (x y : ℕ). (x + y) % modulus) (sum-left Lower lower l a) (sum-left Upper upper u b) ∙ sums (t .0) (t .1) ∙ sym (sum-left Whole whole w c)
 
 pub halves-make-whole : (F : Formula) → HalvesMakeWhole F
 halves-make-whole F = record { sums = sums F; bytes = bytes F }

@@ -22,16 +22,17 @@ use Rattle.ledger.specs.Ledger.{View, totalOf, totalIn, fresh}
 use Rattle.ledger.specs.Plain.{Plain, plainView, encode, opened, admit, including, adding}
 use Rattle.ledger.proofs.Image.{Good, view-encode, total-encode, fresh-encode}
 use Rattle.sheet.specs.Sheet.{sheetPos, sheetBlocks, sheetCount, rowIn, blockIn, sumIn, entriesFrom, entries, every, ascending, wellFormed, contentsOf, bodiesOf, sheetOf}
-use Rattle.sheet.specs.Calls.{sheetRefusal, sheetAnswer, sheetBytes}
+use Rattle.sheet.specs.Calls.{sheetRefusal, sheetPostCall}
 use Rattle.sheet.specs.Posts.{sheet, postRefusal, postEntries, postBytes, plainAnswer, plainPost, postsBytes}
 use Rattle.sheet.proofs.Simulation.{good-opened, step, post-answers}
-use Rattle.look.specs.Look.{unmarkedOf, unmarkedIn, lookRefusal, lookAnswer, lookBytes}
+use Rattle.look.specs.Look.{unmarkedOf, unmarkedIn, lookRefusal, lookCall}
 use Rattle.look.proofs.Counting.{all-less-marks, none-left}
 use Rattle.look.proofs.Posted.{all-in, leaves}
 use Rattle.look.proofs.AsPosting.{looks-as-posted}
-use Rattle.closing.specs.Closing.{settledAt, closeRefusal, closingAnswer, closeAnswer}
+use Rattle.closing.specs.Closing.{settledAt, closeBy, closeCall}
 use Rattle.closing.proofs.Encoded.{answer-encoded}
 use Rattle.settlement.specs.Looks.{Step, posting, looking, Outcome, outcome, stepOutcome, stepBytes, plainOutcome, plainStep, stepsBytes, outcomes, plainOutcomes, postsAmong, Looks, someSteps, LooksTaken}
+use Rattle.run.specs.Call.{answered, bytesLeft, refusedBy, allLeft}
 
 -- ---- looks among posts
 
@@ -44,7 +45,7 @@ unseen lim ledger (looking s total ∷ steps) = unseen lim ledger steps
 module _ (lim : Limits) where
   -- one step: the look sees the plain ledger, and so does the post whose bytes it counts in
   step-outcome : (plain : Plain) (a : Step) → Good lim plain → stepOutcome lim (encode lim plain) a ≡ plainOutcome lim plain a
-  unfolding stepOutcome plainOutcome lookAnswer lookBytes postBytes
+  unfolding stepOutcome plainOutcome lookCall refusedBy answered lookRefusal allLeft postBytes
   step-outcome plain (posting a) g = ap (λ (z : ℤ). outcome z []) (post-answers lim plain a g)
   step-outcome plain (looking s total) g =
       let left = plainPost lim plain (sheet s) in
@@ -68,36 +69,36 @@ module _ (lim : Limits) where
 -- ---- 0 where the run is full
 
 module _ (F : Formula) (fits : F .last < 2 ^ 64) (ledger s total digits : List ℕ) (bytes : AllBytes ledger)
-    (taken : sheetAnswer (limitsOf F) ledger s ≡ pos 0) (room : length total ≡ 16) (wide : length digits ≡ 32) where
+    (taken : answered (sheetPostCall (limitsOf F) ledger s) ≡ pos 0) (room : length total ≡ 16) (wide : length digits ≡ 32) where
   abbrev lim : Limits
   lim = limitsOf F
 
   -- the plain ledger that the post leaves, its unmarked tickets, and the digits that its total settles
-  abbrev left : Plain
-  left = all-in lim fits ledger s bytes taken
+  abbrev remains : Plain
+  remains = all-in lim fits ledger s bytes taken
 
   abbrev rest : ℕ
-  rest = unmarkedIn lim (sheetBytes lim ledger s)
+  rest = unmarkedIn lim (bytesLeft (sheetPostCall lim ledger s) 0)
 
   abbrev d : ℕ
-  d = settledAt isCharged F (left .p) (totalOf lim (left .sums))
+  d = settledAt isCharged F (remains .p) (totalOf lim (remains .sums))
 
-  rest-is : rest ≡ unmarkedOf lim (plainView left)
+  rest-is : rest ≡ unmarkedOf lim (plainView remains)
   rest-is =
       let l = leaves lim fits ledger s bytes taken in
-      ap (unmarkedIn lim) (l .0) ∙ ap (unmarkedOf lim) (view-encode lim left (l .1))
+      ap (unmarkedIn lim) (l .0) ∙ ap (unmarkedOf lim) (view-encode lim remains (l .1))
 
-  closes : closeAnswer F (sheetBytes lim ledger s) digits ≡ answer (cond (not (eqb rest 0)) 8 (cond (eqb d 0) 9 0)) d
-  unfolding closingAnswer closeRefusal refusal plainView
+  closes : answered (closeCall F (bytesLeft (sheetPostCall lim ledger s) 0) digits) ≡ answer (cond (not (eqb rest 0)) 8 (cond (eqb d 0) 9 0)) d
+  unfolding closeBy answered refusedBy refusal plainView
   closes =
       let l = leaves lim fits ledger s bytes taken in
-      let full = sym (none-left lim (plainView left)) ∙ ap (λ (n : ℕ). eqb n 0) (sym rest-is) in
-      ap (λ (b : List ℕ). closeAnswer F b digits) (l .0) ∙ answer-encoded F left (l .1) digits ∙ rw (wide, full) refl
+      let full = sym (none-left lim (plainView remains)) ∙ ap (λ (n : ℕ). eqb n 0) (sym rest-is) in
+      ap (λ (b : List ℕ). answered (closeCall F b digits)) (l .0) ∙ answer-encoded F remains (l .1) digits ∙ rw (wide, full) refl
 
-  looks : lookAnswer lim ledger s total ≡ pos rest
+  looks : answered (lookCall lim ledger s total) ≡ pos rest
   looks = looks-as-posted lim .as-posting ledger s total room .taken taken .0
 
-  not-eight : rest ≡ 0 → closeAnswer F (sheetBytes lim ledger s) digits ≡ negℤ (pos 8) → ⊥
+  not-eight : rest ≡ 0 → answered (closeCall F (bytesLeft (sheetPostCall lim ledger s) 0) digits) ≡ negℤ (pos 8) → ⊥
   not-eight z e =
       let n = refused-by _ d 8 (omega arith) (sym closes ∙ e) in
       go (eqb d 0) (sym (ap (λ (k : ℕ). cond (not (eqb k 0)) 8 (cond (eqb d 0) 9 0)) z) ∙ n)
@@ -106,15 +107,15 @@ module _ (F : Formula) (fits : F .last < 2 ^ 64) (ledger s total digits : List �
       go true q = omega arith
       go false q = omega arith
 
-  none-remain : (closeAnswer F (sheetBytes lim ledger s) digits ≡ negℤ (pos 8) → ⊥) → rest ≡ 0
+  none-remain : (answered (closeCall F (bytesLeft (sheetPostCall lim ledger s) 0) digits) ≡ negℤ (pos 8) → ⊥) → rest ≡ 0
   none-remain f = go (eqb rest 0) refl
     where
       go : (b : Bool) → eqb rest 0 ≡ b → rest ≡ 0
       go true e = eqb-true rest 0 e
       go false e = absurd (f (closes ∙ ap (λ (b : Bool). answer (cond (not b) 8 (cond (eqb d 0) 9 0)) d) e ∙ negated 8 d (λ z. omega (arith, z))))
 
-  zero-where-full : (lookAnswer lim ledger s total ≡ pos 0 → closeAnswer F (sheetBytes lim ledger s) digits ≡ negℤ (pos 8) → ⊥)
-      × ((closeAnswer F (sheetBytes lim ledger s) digits ≡ negℤ (pos 8) → ⊥) → lookAnswer lim ledger s total ≡ pos 0)
+  zero-where-full : (answered (lookCall lim ledger s total) ≡ pos 0 → answered (closeCall F (bytesLeft (sheetPostCall lim ledger s) 0) digits) ≡ negℤ (pos 8) → ⊥)
+      × ((answered (closeCall F (bytesLeft (sheetPostCall lim ledger s) 0) digits) ≡ negℤ (pos 8) → ⊥) → answered (lookCall lim ledger s total) ≡ pos 0)
   zero-where-full = (
     λ e. not-eight (same (sym looks ∙ e)),
     λ f. looks ∙ ap pos (none-remain f),

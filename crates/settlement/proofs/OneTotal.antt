@@ -20,9 +20,10 @@ use Rattle.ledger.proofs.RowSums.{total-adding}
 use Rattle.ledger.proofs.Image.{total-encode}
 use Rattle.sheet.specs.Posts.{Post, postRefusal, postEntries, plainPost, plainPosts, plainAnswer, plainAnswers}
 use Rattle.sheet.proofs.Simulation.{Ready, good-opened, posts-good, post-ready, ledger-is, answers-are}
-use Rattle.closing.specs.Closing.{closingAnswer, closingBytes, closeAnswer, closeBytes}
+use Rattle.closing.specs.Closing.{closeBy, closeCall}
 use Rattle.closing.proofs.Encoded.{answer-encoded, bytes-encoded}
 use Rattle.settlement.specs.OneTotal.{OneTotal, oneOpened, oneView, oneAdmit, onePost, onePosts, oneAnswers, oneCloseAnswer, oneCloseBytes, SameAsOne, SameTotal, AsBefore}
+use Rattle.run.specs.Call.{answered, bytesLeft}
 
 -- ---- the ledger with row sums, seen as one with a total
 
@@ -97,20 +98,19 @@ module _ (F : Formula) (fits : F .last < 2 ^ 64) where
         answers =
             answers-are lim p C fits range posts ∙ as-answers lim (opened p C) posts ∙ ap (λ (o : OneTotal). oneAnswers lim o posts) (as-opened lim p C);
         closing = λ digits. (
-          ap (λ (l : List ℕ). closeAnswer F l digits) final ∙ answer-encoded F s good digits
-              ∙ ap (λ (v : View). closingAnswer isCharged F v (totalOf lim (s .sums)) digits) (sym (same-view lim s)) ∙ ap (λ (o : OneTotal). oneCloseAnswer F o digits) one,
-          ap (λ (l : List ℕ). closeBytes F l digits) final ∙ bytes-encoded F s good digits
-              ∙ ap (λ (v : View). closingBytes isCharged F v (totalOf lim (s .sums)) digits) (sym (same-view lim s)) ∙ ap (λ (o : OneTotal). oneCloseBytes F o digits) one,
+          ap (λ (l : List ℕ). answered (closeCall F l digits)) final ∙ answer-encoded F s good digits
+              ∙ ap (λ (v : View). answered (closeBy isCharged F v (totalOf lim (s .sums)) digits)) (sym (same-view lim s)) ∙ ap (λ (o : OneTotal). oneCloseAnswer F o digits) one,
+          ap (λ (l : List ℕ). bytesLeft (closeCall F l digits) 0) final ∙ bytes-encoded F s good digits
+              ∙ ap (λ (v : View). bytesLeft (closeBy isCharged F v (totalOf lim (s .sums)) digits) 0) (sym (same-view lim s)) ∙ ap (λ (o : OneTotal). oneCloseBytes F o digits) one,
         );
       }
 
   by-total : (s t : List ℕ) → SameTotal (limitsOf F) s t → (digits : List ℕ)
-      → (closeAnswer F s digits ≡ closeAnswer F t digits) × (closeBytes F s digits ≡ closeBytes F t digits)
-  unfolding closeAnswer closeBytes
+      → (answered (closeCall F s digits) ≡ answered (closeCall F t digits)) × (bytesLeft (closeCall F s digits) 0 ≡ bytesLeft (closeCall F t digits) 0)
   by-total s t same digits =
       let seen = same-seen (limitsOf F) s t same in (
-        ap₂ (λ (v : View) (n : ℕ). closingAnswer isCharged F v n digits) seen (same .same-total),
-        ap₂ (λ (v : View) (n : ℕ). closingBytes isCharged F v n digits) seen (same .same-total),
+        ap₂ (λ (v : View) (n : ℕ). answered (closeBy isCharged F v n digits)) seen (same .same-total),
+        ap₂ (λ (v : View) (n : ℕ). bytesLeft (closeBy isCharged F v n digits) 0) seen (same .same-total),
       )
 
   -- Digits come out as before

@@ -38,7 +38,7 @@ fits f = let h = few-rows f in record { few = omega (arith, h); near = near-posi
 
 -- what is asked of a formula, by the name that the code has for it
 pub asked : (f : Series) → Asked (formulaOf f)
-asked f = record { fits = fits f; positive = positive f; rest = rest f }
+asked f = record { fits = fits f; positive = positive f; rest = λ p at. rest f p }
 
 pub runs : Runs
 runs = record {

@@ -31,15 +31,16 @@ use Rattle.series.proofs.Table.{fitting}
 use Rattle.series.proofs.ByLengths.{squarings-agree}
 use Rattle.run.specs.Run.{limitsOf, inRange, isTicket, bound}
 use Rattle.run.specs.Refusal.{refusal}
-use Rattle.run.proofs.Answering.{changed, kept, refused}
+use Rattle.run.specs.Call.{refusedBy, answered, allLeft, bytesLeft}
+use Rattle.run.proofs.Calls.{leaves, refuses}
 use Rattle.run.proofs.Range.{range-of, ticket-row, ticket-block}
 use Rattle.ticket.specs.Parts.{partFirst, partEnd, partCount, partSquarings}
-use Rattle.ticket.specs.Work.{isSized, bothSized, partRefusal, partAnswer, written, workRefusal, workAnswer, workBytes, workSquarings, quoteRefusal, quoteAnswer, quoteSquarings}
+use Rattle.ticket.specs.Work.{isSized, bothSized, workCall, quoteCall}
 use Rattle.ticket.specs.declared.Part.{Part}
 use Rattle.ticket.specs.declared.Part.the-variants.{Whole, Lower, Upper}
 use Rattle.ticket.proofs.Parts.{ordered, meet}
 use Rattle.settlement.specs.Squarings.{Countable, Squarings, SquaringsAre, AllSquaringsAre, squaringFigures, checkSquaringFigures}
-use Rattle.settlement.proofs.Halves.{taken}
+use Rattle.settlement.proofs.Halves.{taken, wrote}
 use Rattle.settlement.proofs.Partition.{all-blocks}
 
 module _ (F : Formula) (near : F .last < 2 ^ 64) (c : Countable F) (p C row block : ℕ) where
@@ -77,12 +78,11 @@ module _ (F : Formula) (near : F .last < 2 ^ 64) (c : Countable F) (p C row bloc
         let small : partSquarings F part p C row block < 2 ^ 80 = omega (arith, at-most part, o, few-terms) in
         lt-trans small (lit< tt)
 
-  counted : (part : Part) (out count : List ℕ) → workAnswer F p C row block out count ≡ pos 0
-      → valueOf (workSquarings F part p C row block out count) ≡ partSquarings F part p C row block
-  unfolding workSquarings
+  counted : (part : Part) (out count : List ℕ) → answered (workCall F part p C row block out count) ≡ pos 0
+      → valueOf (bytesLeft (workCall F part p C row block out count) 1) ≡ partSquarings F part p C row block
   counted part out count a =
-      let k = taken F p C row block out count a in
-      ap valueOf (sym (changed _ _ count (k .0))) ∙ value-bytes 16 (partSquarings F part p C row block) (fits (k .1) (k .2) part)
+      let k = taken F p C row block part out count a in
+      ap valueOf (sym (wrote F p C row block part out count a .1)) ∙ value-bytes 16 (partSquarings F part p C row block) (fits (k .0) (k .1) part)
 
 module _ (F : Formula) (part : Part) (p C row block : ℕ) (out count : List ℕ) where
   -- one of the two sizes is wrong
@@ -94,29 +94,20 @@ module _ (F : Formula) (part : Part) (p C row block : ℕ) (out count : List ℕ
       and-false true = refl
       and-false false = refl
 
-  refused-by-one : (length out ≡ 16 → ⊥) ⊎ (length count ≡ 16 → ⊥) → workRefusal F p C row block out count ≡ 1
-  unfolding workRefusal partRefusal refusal
-  refused-by-one h = rw (unsized h) refl
-
-  wrong-size : (length out ≡ 16 → ⊥) ⊎ (length count ≡ 16 → ⊥) → (workAnswer F p C row block out count ≡ negℤ (pos 1))
-      × (workBytes F part p C row block out count ≡ out) × (workSquarings F part p C row block out count ≡ count)
-  unfolding workAnswer workRefusal partAnswer workBytes workSquarings
-  wrong-size h =
-      let e : workRefusal F p C row block out count ≡ 1 = refused-by-one h in
-      (sym (refused _ _ 0 e), sym (kept _ _ _ out e), sym (kept _ _ _ count e))
+  wrong-size : (length out ≡ 16 → ⊥) ⊎ (length count ≡ 16 → ⊥) → (answered (workCall F part p C row block out count) ≡ negℤ (pos 1))
+      × (bytesLeft (workCall F part p C row block out count) 0 ≡ out) × (bytesLeft (workCall F part p C row block out count) 1 ≡ count)
+  unfolding workCall refusedBy refusal
+  wrong-size h = let w = workCall F part p C row block out count in let r = refuses w 0 (rw (unsized h) refl) in (sym (r .0), sym (leaves w (r .1) 0), sym (leaves w (r .1) 1))
 
   -- a quote has the tests of working but for the sum's size
   one-size : length out ≡ 16 → isSized count ≡ bothSized out count
   unfolding bothSized isSized
   one-size h = rw (eq-eqb (length out) 16 h) refl
 
-  quoted : length out ≡ 16 → (quoteAnswer F p C row block count ≡ workAnswer F p C row block out count)
-      × (quoteSquarings F part p C row block count ≡ workSquarings F part p C row block out count)
-  unfolding quoteAnswer quoteRefusal quoteSquarings workAnswer workRefusal workSquarings
-  quoted h = (
-    ap (partAnswer F p C row block) (one-size h),
-    ap (λ (b : Bool). written (partRefusal F p C row block b) (partSquarings F part p C row block) count) (one-size h),
-  )
+  quoted : length out ≡ 16 → (answered (quoteCall F part p C row block count) ≡ answered (workCall F part p C row block out count))
+      × (bytesLeft (quoteCall F part p C row block count) 0 ≡ bytesLeft (workCall F part p C row block out count) 1)
+  unfolding quoteCall workCall refusedBy answered allLeft
+  quoted h = rw (one-size h) (refl, refl)
 
 blocks : (F : Formula) (p C row : ℕ) → inRange (limitsOf F) p C ≡ true
     → sum (partSquarings F Whole p C row) 0 C ≡ rangeSquarings F p (rowAt F row) 0 (termCount F p)

@@ -1,4 +1,4 @@
--- Demand 3, for any formula whose N are at least 1 and whose uncharged terms stay below a unit at every position; and for Bellard's.
+-- Demand 3, for any formula whose N are at least 1 and whose uncharged terms stay below a unit at every position of a run.
 -- Assumes nothing.
 use mathlib.Core.Path.{_≡_, refl, sym, ap, _∙_, subst}
 use mathlib.Core.Bool.{Bool, true, cond}
@@ -12,6 +12,7 @@ use lib.ListN.{length, drop}
 use Rattle.algebra.specs.Whole.{quotient}
 use Rattle.algebra.proofs.Below.{all-true}
 use Rattle.series.specs.Series.{Formula, rowCount, termCount, sizesSum}
+use Rattle.series.specs.Fitting.{Position}
 use Rattle.interval.specs.Exact.{MakesWhole, exactSum}
 use Rattle.interval.specs.Interval.{isCharged, LiesFrom, Positive, RestBelowUnit, Settles, unitAt}
 use Rattle.interval.specs.Digits.{settled, lowDigits}
@@ -19,21 +20,23 @@ use Rattle.interval.proofs.AnyRows.{any-rows}
 use Rattle.interval.proofs.Digits.{greatest, none-settled, settled-none, one-outcome}
 use Rattle.run.specs.Refusal.{refusal, answer}
 use Rattle.run.specs.Run.{limitsOf, inRange}
+use Rattle.run.proofs.Positions.{position}
 use Rattle.run.proofs.Range.{range-of, is-ticket}
 use Rattle.ledger.specs.Ledger.{fresh, ledgerSize, totalOf}
 use Rattle.ledger.specs.Plain.{Plain, opened, plainView, encode}
-use Rattle.ledger.specs.Calls.{openAnswer, openBytes, openRefusal}
+use Rattle.ledger.specs.Calls.{openCall}
 use Rattle.ledger.proofs.Image.{Good}
 use Rattle.sheet.specs.Posts.{Post, postsBytes, plainPosts}
 use Rattle.sheet.proofs.Simulation.{good-opened, posts-good, ledger-is, answers-are}
-use Rattle.closing.specs.Closing.{lowOf, highOf, settledAt, digitsAt, closeRefusal, closingAnswer, closingBytes, closeAnswer, closeBytes}
+use Rattle.closing.specs.Closing.{lowOf, highOf, settledAt, digitsAt, closeBy, closeCall}
 use Rattle.closing.proofs.Encoded.{answer-encoded, bytes-encoded}
 use Rattle.settlement.specs.Settlement.{allSums, Closed, Settled, Demand3}
 use Rattle.settlement.proofs.Filling.{filled-all, filled-rows, filled-total, kept-posts, kept-opened}
 use Rattle.settlement.proofs.Partition.{all-tickets}
+use Rattle.run.specs.Call.{answered, bytesLeft, refusedBy, allLeft}
 
-module _ (F : Formula) (fits : F .last < 2 ^ 64) (above : Positive F) (rest : (p : ℕ) → RestBelowUnit isCharged F p (termCount F p))
-    (p C : ℕ) (range : inRange (limitsOf F) p C ≡ true) where
+module _ (F : Formula) (fits : F .last < 2 ^ 64) (above : Positive F) (p C : ℕ) (range : inRange (limitsOf F) p C ≡ true)
+    (rest : RestBelowUnit isCharged F p (termCount F p)) where
   lo : ℤ
   lo = lowOf isCharged F p (allSums F p C)
 
@@ -47,7 +50,7 @@ module _ (F : Formula) (fits : F .last < 2 ^ 64) (above : Positive F) (rest : (p
   unfolding lo hi
   all-near D L d h whole =
       subst (λ (t : ℕ). LiesFrom D (lowOf isCharged F p t) (highOf isCharged F p t) (exactSum F p D L)) sizes-are
-      (any-rows isCharged F p (termCount F p) above (rest p) .near D L d h whole)
+      (any-rows isCharged F p (termCount F p) above rest .near D L d h whole)
 
   -- a quotient that low and high share has the lowest digits of every exact sum
   digits : (d : ℕ) → Settles lo hi d → (D L : ℕ) → 0 < D → termCount F p ≤ L → MakesWhole F p L D
@@ -56,7 +59,7 @@ module _ (F : Formula) (fits : F .last < 2 ^ 64) (above : Positive F) (rest : (p
   digits d s D L dp h whole =
       subst (λ (t : ℕ). Settles (lowOf isCharged F p t) (highOf isCharged F p t) d
       → lowDigits d (quotient (lowOf isCharged F p t) (unitAt d)) ≡ lowDigits d (quotient (exactSum F p D L) (D * unitAt d))) sizes-are
-      (λ s. sym (any-rows isCharged F p (termCount F p) above (rest p) .digits d s D L dp h whole)) s
+      (λ s. sym (any-rows isCharged F p (termCount F p) above rest .digits d s D L dp h whole)) s
 
   -- what a closing of a filled ledger answers and writes, by the number of digits settled
   module _ (s : Plain) (good : Good (limitsOf F) s) (run-p : s .p ≡ p) (total-is : totalOf (limitsOf F) (s .sums) ≡ allSums F p C)
@@ -68,17 +71,17 @@ module _ (F : Formula) (fits : F .last < 2 ^ 64) (above : Positive F) (rest : (p
     unfolding settledAt lo hi
     settled-is = rw (run-p, total-is) refl
 
-    refusal-is : closeRefusal isCharged F (plainView s) (totalOf (limitsOf F) (s .sums)) out ≡ cond (eqb (settled lo hi) 0) 9 0
-    unfolding closeRefusal refusal plainView
+    refusal-is : refusedBy (closeBy isCharged F (plainView s) (totalOf (limitsOf F) (s .sums)) out) ≡ cond (eqb (settled lo hi) 0) 9 0
+    unfolding closeBy refusedBy refusal plainView
     refusal-is = rw (room, all-true (rowCount F) _ (λ row h. all-true (s .C) _ (λ block l. full row block h l)), settled-is) refl
 
-    answer-is : closeAnswer F bytes out ≡ answer (cond (eqb (settled lo hi) 0) 9 0) (settled lo hi)
-    unfolding closingAnswer plainView bytes
+    answer-is : answered (closeCall F bytes out) ≡ answer (cond (eqb (settled lo hi) 0) 9 0) (settled lo hi)
+    unfolding closeBy answered plainView bytes
     answer-is = answer-encoded F s good out ∙ rw (refusal-is, settled-is) refl
 
-    bytes-are : closeBytes F bytes out
+    bytes-are : bytesLeft (closeCall F bytes out) 0
         ≡ cond (eqb (cond (eqb (settled lo hi) 0) 9 0) 0) (lowDigits (settled lo hi) (quotient lo (unitAt (settled lo hi))) ++ drop (settled lo hi) out) out
-    unfolding closingBytes digitsAt plainView bytes lo
+    unfolding closeBy allLeft digitsAt plainView bytes lo
     bytes-are = bytes-encoded F s good out ∙ rw (refusal-is, settled-is, run-p, total-is) refl
 
     closed : Closed F p lo hi bytes out
@@ -112,8 +115,8 @@ module _ (F : Formula) (fits : F .last < 2 ^ 64) (above : Positive F) (rest : (p
         positive-digits d t e = let h = t .0 in omega (arith, h, e)
 
   opens-fresh : (s : List ℕ) → length s ≡ ledgerSize (limitsOf F)
-      → (openAnswer (limitsOf F) p C s ≡ pos 0) × (openBytes (limitsOf F) p C s ≡ fresh (limitsOf F) p C)
-  unfolding openAnswer openBytes openRefusal refusal answer
+      → (answered (openCall (limitsOf F) p C s) ≡ pos 0) × (bytesLeft (openCall (limitsOf F) p C s) 0 ≡ fresh (limitsOf F) p C)
+  unfolding openCall answered allLeft refusedBy refusal answer
   opens-fresh s h = rw (h, eq-eqb (ledgerSize (limitsOf F)) (ledgerSize (limitsOf F)) refl, range) (refl, refl)
 
   settlement : (posts : List Post) → Settled F p C posts
@@ -143,5 +146,5 @@ module _ (F : Formula) (fits : F .last < 2 ^ 64) (above : Positive F) (rest : (p
       }
 
 -- Demand 3
-pub demand3 : (F : Formula) → F .last < 2 ^ 64 → Positive F → ((p : ℕ) → RestBelowUnit isCharged F p (termCount F p)) → Demand3 F
-demand3 F fits above rest p C range posts = settlement F fits above rest p C range posts
+pub demand3 : (F : Formula) → F .last < 2 ^ 64 → Positive F → ((p : ℕ) → Position F p → RestBelowUnit isCharged F p (termCount F p)) → Demand3 F
+demand3 F fits above rest p C range posts = settlement F fits above p C range (rest p (position F p C range)) posts

@@ -9,7 +9,8 @@ use lib.ListN.{length}
 use Rattle.words.specs.Bytes.{bytesOf}
 use Rattle.series.specs.Series.{Formula, Side, plus, minus, rowAt, rowSum, size, termCount, modulus}
 use Rattle.run.specs.Run.{limitsOf, inRange, isTicket, bound, ticketSum}
-use Rattle.ticket.specs.Work.{workAnswer, workBytes}
+use Rattle.run.specs.Call.{answered, bytesLeft}
+use Rattle.ticket.specs.Work.{workCall}
 use Rattle.ticket.specs.declared.Part.the-variants.{Whole}
 use Rattle.sheet.specs.RoundTrip.{WrittenReadsBack, AcceptedIsWritten}
 
@@ -22,8 +23,8 @@ sideOf F side p C row block =
 -- What working a ticket of a run gives, with 16 bytes lent for the sum and 16 for the squarings: answer 0, and in the sum's bytes the one number
 -- below 2 ^ 128 that is the added terms less the subtracted ones modulo 2 ^ 128.
 pub record Worked (F : Formula) (p C row block : ℕ) (out squarings : List ℕ) : Type 0 where
-  pub answered : workAnswer F p C row block out squarings ≡ pos 0
-  pub bytes-are : workBytes F Whole p C row block out squarings ≡ bytesOf 16 (ticketSum F p C row block)
+  pub answers : answered (workCall F Whole p C row block out squarings) ≡ pos 0
+  pub bytes-are : bytesLeft (workCall F Whole p C row block out squarings) 0 ≡ bytesOf 16 (ticketSum F p C row block)
   pub small : ticketSum F p C row block < modulus
   pub signed : (ticketSum F p C row block + sideOf F minus p C row block) % modulus ≡ sideOf F plus p C row block % modulus
 

@@ -10,21 +10,22 @@ use Rattle.series.specs.Series.{Formula, Side, termCount}
 use Rattle.interval.specs.Interval.{isCharged, everyTerm, charges}
 use Rattle.run.specs.Run.{limitsOf}
 use Rattle.ledger.specs.Ledger.{viewOf, totalIn}
-use Rattle.closing.specs.Closing.{lowOf, highOf, closingAnswer, closingBytes, closeAnswer, closeBytes}
+use Rattle.closing.specs.Closing.{lowOf, highOf, closeBy, closeCall}
+use Rattle.run.specs.Call.{answered, bytesLeft}
 
 -- what closing a ledger's bytes answered, and left, while every term was charged
 abbrev pub answerBefore : Formula → List ℕ → List ℕ → ℤ
-answerBefore F s digits = closingAnswer everyTerm F (viewOf (limitsOf F) s) (totalIn (limitsOf F) s) digits
+answerBefore F s digits = answered (closeBy everyTerm F (viewOf (limitsOf F) s) (totalIn (limitsOf F) s) digits)
 
 abbrev pub bytesBefore : Formula → List ℕ → List ℕ → List ℕ
-bytesBefore F s digits = closingBytes everyTerm F (viewOf (limitsOf F) s) (totalIn (limitsOf F) s) digits
+bytesBefore F s digits = bytesLeft (closeBy everyTerm F (viewOf (limitsOf F) s) (totalIn (limitsOf F) s) digits) 0
 
 -- It closes with d digits or more, and the first d of them are those that it closed with before.
 pub record Keeps (F : Formula) (s digits : List ℕ) (d : ℕ) : Type 0 where
   pub now : ℕ
   pub no-fewer : d ≤ now
-  pub answers : closeAnswer F s digits ≡ pos now
-  pub same : take d (closeBytes F s digits) ≡ take d (bytesBefore F s digits)
+  pub answers : answered (closeCall F s digits) ≡ pos now
+  pub same : take d (bytesLeft (closeCall F s digits) 0) ≡ take d (bytesBefore F s digits)
 
 pub record NoWider (F : Formula) : Type 0 where
   -- a and b are at most what they were, at every position

@@ -7,16 +7,17 @@ use Prim.Native.Nat.{ℕ, _-_, _^_, _<_}
 use lib.Dec.{eqb}
 use lib.IntN.{ℤ, pos, negℤ}
 use lib.ListN.{getD, take, replicate}
-use Rattle.series.specs.Series.{Formula, plus, minus, rowAt, size, isAdded, termCount, modulus}
+use Rattle.series.specs.Series.{Formula, rowCount, plus, minus, rowAt, size, isAdded, termCount, modulus}
 use Rattle.series.specs.Bellard.{bellard}
 use Rattle.series.specs.Check.{check}
 use Rattle.interval.specs.Interval.{isCharged, charges}
 use Rattle.run.specs.Run.{limitsOf}
 use Rattle.ledger.specs.Ledger.{totalOf}
 use Rattle.ledger.specs.Plain.{fullLedger}
-use Rattle.closing.specs.Closing.{closeAnswer, closeBytes}
+use Rattle.closing.specs.Closing.{closeCall}
 use Rattle.settlement.specs.Settlement.{ClosesWith}
 use Rattle.settlement.specs.EveryTerm.{answerBefore, bytesBefore}
+use Rattle.run.specs.Call.{answered, bytesLeft}
 
 -- A figure, with what the document gives for it.
 pub data Figure : Type 0 where
@@ -40,8 +41,8 @@ Holds F (countAt p K) = termCount F p ≡ K
 Holds F (chargesAt p a b) = (charges isCharged F plus p (termCount F p) ≡ a) × (charges isCharged F minus p (termCount F p) ≡ b)
 Holds F (closingOf total a digits) =
     (sums : ℕ → ℕ) → ((row : ℕ) → sums row < modulus) → totalOf (limitsOf F) sums ≡ total
-    → (closeAnswer F (fullLedger (limitsOf F) sums) (replicate 32 0) ≡ a)
-    × (closeBytes F (fullLedger (limitsOf F) sums) (replicate 32 0) ≡ digits)
+    → (answered (closeCall F (fullLedger (limitsOf F) sums) (replicate 32 0)) ≡ a)
+    × (bytesLeft (closeCall F (fullLedger (limitsOf F) sums) (replicate 32 0)) 0 ≡ digits)
 Holds F (closedBefore total a digits) =
     (sums : ℕ → ℕ) → ((row : ℕ) → sums row < modulus) → totalOf (limitsOf F) sums ≡ total
     → (answerBefore F (fullLedger (limitsOf F) sums) (replicate 32 0) ≡ a)
@@ -103,7 +104,9 @@ unfoldable pub inRow : ℕ → ℕ → ℕ → ℕ
 inRow row total r = cond (eqb row r) total 0
 
 pub record Spreads : Type 0 where
-  pub one-row : (row total : ℕ) → row < 7 → total < modulus → totalOf (limitsOf bellard) (inRow row total) ≡ total
-  -- past 2 ^ 128 once, and six times
+  pub one-row : (F : Formula) (row total : ℕ) → row < rowCount F → total < modulus → totalOf (limitsOf F) (inRow row total) ≡ total
+  -- past 2 ^ 128 once, and as often as there are rows to pass it: six times, and in a check run three
   pub once : totalOf (limitsOf bellard) (λ row. getD ((2 ^ 128 - 1) ∷ 0 ∷ 0 ∷ 0 ∷ 0 ∷ 0 ∷ 51 ∷ []) row 0) ≡ 50
   pub six-times : totalOf (limitsOf bellard) (λ row. 2 ^ 128 - 1) ≡ 2 ^ 128 - 7
+  pub check-once : totalOf (limitsOf check) (λ row. getD ((2 ^ 128 - 1) ∷ 0 ∷ 0 ∷ 99 ∷ []) row 0) ≡ 98
+  pub three-times : totalOf (limitsOf check) (λ row. 2 ^ 128 - 1) ≡ 2 ^ 128 - 4

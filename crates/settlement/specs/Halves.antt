@@ -12,7 +12,8 @@ use Rattle.series.specs.Check.{check}
 use Rattle.series.specs.Halves.{byHalves}
 use Rattle.run.specs.Run.{limitsOf, inRange, isTicket}
 use Rattle.ticket.specs.Parts.{cut, partFirst, partCount, partSum}
-use Rattle.ticket.specs.Work.{workAnswer, workBytes}
+use Rattle.run.specs.Call.{answered, bytesLeft}
+use Rattle.ticket.specs.Work.{workCall}
 use Rattle.ticket.specs.declared.Part.the-variants.{Whole, Lower, Upper}
 
 -- For every ticket, the sums of the two halves added modulo 2 ^ 128 are the ticket's: the sums themselves, and the numbers in the bytes that
@@ -20,12 +21,13 @@ use Rattle.ticket.specs.declared.Part.the-variants.{Whole, Lower, Upper}
 pub record HalvesMakeWhole (F : Formula) : Type 0 where
   pub sums : (p C row block : ℕ) → inRange (limitsOf F) p C ≡ true → isTicket (limitsOf F) C row block ≡ true
       → (partSum F Lower p C row block + partSum F Upper p C row block) % modulus ≡ partSum F Whole p C row block
-  pub bytes : (p C row block : ℕ) (lower upper whole l u w : List ℕ) → workAnswer F p C row block lower l ≡ pos 0
-      → workAnswer F p C row block upper u ≡ pos 0 → workAnswer F p C row block whole w ≡ pos 0
-      → (valueOf (workBytes F Lower p C row block lower l) + valueOf (workBytes F Upper p C row block upper u)) % modulus
-      ≡ valueOf (workBytes F Whole p C row block whole w)
+  pub bytes : (p C row block : ℕ) (lower upper whole l u w : List ℕ) → answered (workCall F Lower p C row block lower l) ≡ pos 0
+      → answered (workCall F Upper p C row block upper u) ≡ pos 0 → answered (workCall F Whole p C row block whole w) ≡ pos 0
+      → (valueOf (bytesLeft (workCall F Lower p C row block lower l) 0) + valueOf (bytesLeft (workCall F Upper p C row block upper u) 0)) % modulus
+      ≡ valueOf (bytesLeft (workCall F Whole p C row block whole w) 0)
 
--- Each half of every ticket is worked with no more than `depth` cuts one inside the other.
+-- Each half of every ticket is had with no more than `depth` cuts one inside the other. This and what follows is about the definition `byHalves`,
+-- which cuts where the code does; no contract can say how deep the code's own calls lie.
 pub record HalvedWithin (F : Formula) (depth : ℕ) : Type 0 where
   pub lower : (p C row block : ℕ) → inRange (limitsOf F) p C ≡ true → isTicket (limitsOf F) C row block ≡ true
       → byHalves F p (rowAt F row) depth (partFirst F Lower p C block) (partCount F Lower p C block) ≡ partSum F Lower p C row block

@@ -15,18 +15,19 @@ use Rattle.run.specs.Run.{Limits, limitsOf, inRange}
 use Rattle.ledger.specs.Ledger.{totalOf, fresh}
 use Rattle.ledger.specs.Plain.{Entry, Plain, plainView, opened}
 use Rattle.sheet.specs.Sheet.{sheetOf}
-use Rattle.sheet.specs.Calls.{sheetAnswer, sheetBytes}
+use Rattle.sheet.specs.Calls.{sheetPostCall}
 use Rattle.sheet.specs.Posts.{Post, sheet, postAnswer, postBytes, plainAnswer, plainPost, postsBytes}
-use Rattle.look.specs.Look.{unmarkedOf, lookRefusal, lookAnswer, lookBytes}
+use Rattle.look.specs.Look.{unmarkedOf, lookRefusal, lookCall}
 use Rattle.look.specs.AsPosting.{LooksAsPosted, AllLessMarks}
-use Rattle.closing.specs.Closing.{closeAnswer}
+use Rattle.closing.specs.Closing.{closeCall}
+use Rattle.run.specs.Call.{bytesLeft, answered}
 
 -- The sheet is taken: then the look answers 0 exactly where closing the ledger that the post leaves is not refused with 8.
 abbrev pub ZeroWhereFull : Formula → Type 0
 ZeroWhereFull F =
-    (ledger s total digits : List ℕ) → AllBytes ledger → sheetAnswer (limitsOf F) ledger s ≡ pos 0 → length total ≡ 16 → length digits ≡ 32
-    → (lookAnswer (limitsOf F) ledger s total ≡ pos 0 → closeAnswer F (sheetBytes (limitsOf F) ledger s) digits ≡ negℤ (pos 8) → ⊥)
-    × ((closeAnswer F (sheetBytes (limitsOf F) ledger s) digits ≡ negℤ (pos 8) → ⊥) → lookAnswer (limitsOf F) ledger s total ≡ pos 0)
+    (ledger s total digits : List ℕ) → AllBytes ledger → answered (sheetPostCall (limitsOf F) ledger s) ≡ pos 0 → length total ≡ 16 → length digits ≡ 32
+    → (answered (lookCall (limitsOf F) ledger s total) ≡ pos 0 → answered (closeCall F (bytesLeft (sheetPostCall (limitsOf F) ledger s) 0) digits) ≡ negℤ (pos 8) → ⊥)
+    × ((answered (closeCall F (bytesLeft (sheetPostCall (limitsOf F) ledger s) 0) digits) ≡ negℤ (pos 8) → ⊥) → answered (lookCall (limitsOf F) ledger s total) ≡ pos 0)
 
 -- ---- looks among posts
 
@@ -37,16 +38,16 @@ pub data Step : Type 0 where
 
 -- What a step answers, and what the bytes lent for a total become (a post is lent none).
 pub record Outcome : Type 0 where
-  pub answered : ℤ
+  pub reply : ℤ
   pub total : List ℕ
 
 abbrev pub outcome : ℤ → List ℕ → Outcome
-outcome answered total = record { answered = answered; total = total }
+outcome reply total = record { reply = reply; total = total }
 
 -- on the bytes: a look is lent the ledger to read, so the next call is lent the same bytes
 unfoldable pub stepOutcome : Limits → List ℕ → Step → Outcome
 stepOutcome lim ledger (posting a) = outcome (postAnswer lim ledger a) []
-stepOutcome lim ledger (looking s total) = outcome (lookAnswer lim ledger s total) (lookBytes lim ledger s total)
+stepOutcome lim ledger (looking s total) = outcome (answered (lookCall lim ledger s total)) (bytesLeft (lookCall lim ledger s total) 0)
 
 unfoldable pub stepBytes : Limits → List ℕ → Step → List ℕ
 stepBytes lim ledger (posting a) = postBytes lim ledger a

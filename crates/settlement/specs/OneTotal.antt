@@ -13,7 +13,8 @@ use Rattle.run.specs.Run.{Limits, limitsOf, inRange}
 use Rattle.ledger.specs.Ledger.{View, fresh, posIn, blocksIn, totalIn, markIn}
 use Rattle.ledger.specs.Plain.{Entry, including}
 use Rattle.sheet.specs.Posts.{Post, postRefusal, postEntries, postsBytes, postsAnswers}
-use Rattle.closing.specs.Closing.{Ordered, closingAnswer, closingBytes, closeAnswer, closeBytes}
+use Rattle.closing.specs.Closing.{Ordered, closeBy, closeCall}
+use Rattle.run.specs.Call.{answered, bytesLeft}
 
 -- ---- the ledger with one total
 
@@ -51,10 +52,10 @@ oneAnswers lim s (a ∷ posts) = answer (postRefusal lim (oneView s) a) 0 ∷ on
 
 -- closing it
 abbrev pub oneCloseAnswer : Formula → OneTotal → List ℕ → ℤ
-oneCloseAnswer F s digits = closingAnswer isCharged F (oneView s) (s .total) digits
+oneCloseAnswer F s digits = answered (closeBy isCharged F (oneView s) (s .total) digits)
 
 abbrev pub oneCloseBytes : Formula → OneTotal → List ℕ → List ℕ
-oneCloseBytes F s digits = closingBytes isCharged F (oneView s) (s .total) digits
+oneCloseBytes F s digits = bytesLeft (closeBy isCharged F (oneView s) (s .total) digits) 0
 
 -- ---- as before
 
@@ -63,8 +64,8 @@ pub record SameAsOne (F : Formula) (p C : ℕ) (posts : List Post) : Type 0 wher
   pub total : totalIn (limitsOf F) (postsBytes (limitsOf F) (fresh (limitsOf F) p C) posts) ≡ onePosts (limitsOf F) (oneOpened p C) posts .total
   pub answers : postsAnswers (limitsOf F) (fresh (limitsOf F) p C) posts ≡ oneAnswers (limitsOf F) (oneOpened p C) posts
   pub closing : (digits : List ℕ)
-      → (closeAnswer F (postsBytes (limitsOf F) (fresh (limitsOf F) p C) posts) digits ≡ oneCloseAnswer F (onePosts (limitsOf F) (oneOpened p C) posts) digits)
-      × (closeBytes F (postsBytes (limitsOf F) (fresh (limitsOf F) p C) posts) digits ≡ oneCloseBytes F (onePosts (limitsOf F) (oneOpened p C) posts) digits)
+      → (answered (closeCall F (postsBytes (limitsOf F) (fresh (limitsOf F) p C) posts) digits) ≡ oneCloseAnswer F (onePosts (limitsOf F) (oneOpened p C) posts) digits)
+      × (bytesLeft (closeCall F (postsBytes (limitsOf F) (fresh (limitsOf F) p C) posts) digits) 0 ≡ oneCloseBytes F (onePosts (limitsOf F) (oneOpened p C) posts) digits)
 
 -- Two ledgers in order with the same run, the same marks and the same total; the rows' sums may differ.
 pub record SameTotal (lim : Limits) (s t : List ℕ) : Type 0 where
@@ -80,4 +81,4 @@ pub record AsBefore (F : Formula) : Type 0 where
   pub same-as-one : (p C : ℕ) → inRange (limitsOf F) p C ≡ true → (posts : List Post) → SameAsOne F p C posts
   -- a closing depends on a ledger through run, marks and total alone
   pub by-total : (s t : List ℕ) → SameTotal (limitsOf F) s t → (digits : List ℕ)
-      → (closeAnswer F s digits ≡ closeAnswer F t digits) × (closeBytes F s digits ≡ closeBytes F t digits)
+      → (answered (closeCall F s digits) ≡ answered (closeCall F t digits)) × (bytesLeft (closeCall F s digits) 0 ≡ bytesLeft (closeCall F t digits) 0)

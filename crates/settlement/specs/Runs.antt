@@ -5,6 +5,7 @@ use Prim.Native.Nat.{ℕ, _<_}
 use Rattle.series.specs.Series.{Formula, termCount}
 use Rattle.series.specs.Bellard.{bellard}
 use Rattle.series.specs.Check.{check}
+use Rattle.series.specs.Fitting.{Position}
 use Rattle.interval.specs.Exact.{MakesWhole}
 use Rattle.interval.specs.Interval.{isCharged, Positive, RestBelowUnit}
 use Rattle.sheet.specs.RoundTrip.{Fits}
@@ -18,12 +19,12 @@ use Rattle.settlement.specs.Facts.{Facts}
 use Rattle.settlement.specs.Looks.{Looks}
 use Rattle.settlement.specs.Squarings.{Countable, Squarings}
 
--- What is asked: rows fit a byte and positions 8 bytes, every N is at least 1, and the exact terms that are not charged, together with all from
--- K on, at every length add up to less than one unit on each side.
+-- What is asked: rows fit a byte and positions 8 bytes, every N is at least 1, and at every position of a run the exact terms that are not
+-- charged, together with all from K on, at every length add up to less than one unit on each side.
 pub record Asked (F : Formula) : Type 0 where
   pub fits : Fits F
   pub positive : Positive F
-  pub rest : (p : ℕ) → RestBelowUnit isCharged F p (termCount F p)
+  pub rest : (p : ℕ) → Position F p → RestBelowUnit isCharged F p (termCount F p)
 
 -- What is promised: the three demands; the smallest number that applies, a sheet as its tickets one by one, too many tickets refused by 3 or
 -- 4, the halves of a ticket; looks that equal posts onto a copy; squarings handed back and quoted, where E falls and stays short; digits as from a

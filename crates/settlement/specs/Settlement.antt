@@ -15,9 +15,10 @@ use Rattle.interval.specs.Digits.{lowDigits}
 use Rattle.run.specs.Run.{limitsOf, inRange, isTicket, ticketSum}
 use Rattle.ledger.specs.Ledger.{fresh, ledgerSize, totalOf}
 use Rattle.ledger.specs.Plain.{Entry, opened, encode}
-use Rattle.ledger.specs.Calls.{openAnswer, openBytes}
+use Rattle.run.specs.Call.{answered, bytesLeft}
+use Rattle.ledger.specs.Calls.{openCall}
 use Rattle.sheet.specs.Posts.{Post, postsBytes, postsAnswers, plainPosts, plainAnswers, occurrences, contains}
-use Rattle.closing.specs.Closing.{lowOf, highOf, closeAnswer, closeBytes}
+use Rattle.closing.specs.Closing.{lowOf, highOf, closeCall}
 
 -- Each ticket of the run occurs in the list, and carries its right sum wherever it occurs.
 pub record Filled (F : Formula) (p C : ℕ) (posts : List Post) : Type 0 where
@@ -46,19 +47,19 @@ pub record Closed (F : Formula) (p : ℕ) (lo hi : ℤ) (s out : List ℕ) : Typ
   -- the distance settles no digit, or there is a greatest d that it settles: one of the two, and one d
   pub outcome : OneOutcome lo hi
   -- refusal 9 exactly where it settles none, and then the bytes stay
-  pub refused : NoneSettled lo hi → (closeAnswer F s out ≡ negℤ (pos 9)) × (closeBytes F s out ≡ out)
-  pub only-then : closeAnswer F s out ≡ negℤ (pos 9) → NoneSettled lo hi
+  pub refused : NoneSettled lo hi → (answered (closeCall F s out) ≡ negℤ (pos 9)) × (bytesLeft (closeCall F s out) 0 ≡ out)
+  pub only-then : answered (closeCall F s out) ≡ negℤ (pos 9) → NoneSettled lo hi
   -- else the answer is the greatest d that it settles, and the first d bytes are the lowest d digits of X / (D * 2 ^ (128 - 4 d)),
   -- for every exact sum X from length K on
   pub settled : (d : ℕ) → Greatest lo hi d
-      → (closeAnswer F s out ≡ pos d)
+      → (answered (closeCall F s out) ≡ pos d)
       × ((D L : ℕ) → 0 < D → termCount F p ≤ L → MakesWhole F p L D
-      → closeBytes F s out ≡ lowDigits d (quotient (exactSum F p D L) (D * unitAt d)) ++ drop d out)
+      → bytesLeft (closeCall F s out) 0 ≡ lowDigits d (quotient (exactSum F p D L) (D * unitAt d)) ++ drop d out)
 
 pub record Settled (F : Formula) (p C : ℕ) (posts : List Post) : Type 0 where
   -- opening any bytes of the ledger's size answers 0 and leaves a fresh ledger
   pub opens : (s : List ℕ) → length s ≡ ledgerSize (limitsOf F)
-      → (openAnswer (limitsOf F) p C s ≡ pos 0) × (openBytes (limitsOf F) p C s ≡ fresh (limitsOf F) p C)
+      → (answered (openCall (limitsOf F) p C s) ≡ pos 0) × (bytesLeft (openCall (limitsOf F) p C s) 0 ≡ fresh (limitsOf F) p C)
   -- the posts answer, and leave the ledger, as the plain ledger does
   pub answers : postsAnswers (limitsOf F) (fresh (limitsOf F) p C) posts ≡ plainAnswers (limitsOf F) (opened p C) posts
   pub ledger : postsBytes (limitsOf F) (fresh (limitsOf F) p C) posts ≡ encode (limitsOf F) (plainPosts (limitsOf F) (opened p C) posts)
@@ -81,5 +82,5 @@ Demand3 F = (p C : ℕ) → inRange (limitsOf F) p C ≡ true → (posts : List 
 abbrev pub ClosesWith : Formula → ℕ → ℕ → List ℕ → Type 0
 ClosesWith F p d digits =
     (C : ℕ) → inRange (limitsOf F) p C ≡ true → (posts : List Post) → Filled F p C posts → (out : List ℕ) → length out ≡ 32
-    → (closeAnswer F (postsBytes (limitsOf F) (fresh (limitsOf F) p C) posts) out ≡ pos d)
-    × (closeBytes F (postsBytes (limitsOf F) (fresh (limitsOf F) p C) posts) out ≡ digits ++ drop d out)
+    → (answered (closeCall F (postsBytes (limitsOf F) (fresh (limitsOf F) p C) posts) out) ≡ pos d)
+    × (bytesLeft (closeCall F (postsBytes (limitsOf F) (fresh (limitsOf F) p C) posts) out) 0 ≡ digits ++ drop d out)

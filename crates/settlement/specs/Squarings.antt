@@ -13,7 +13,8 @@ use Rattle.series.specs.Series.{Formula, rowCount, rowAt, termCount}
 use Rattle.series.specs.Squarings.{squarings, rangeSquarings, byLengths, Short}
 use Rattle.run.specs.Run.{limitsOf, inRange, isTicket}
 use Rattle.ticket.specs.Parts.{partFirst, partEnd, partCount, partSquarings}
-use Rattle.ticket.specs.Work.{workAnswer, workBytes, workSquarings, quoteAnswer, quoteSquarings}
+use Rattle.run.specs.Call.{answered, bytesLeft}
+use Rattle.ticket.specs.Work.{workCall, quoteCall}
 use Rattle.ticket.specs.declared.Part.{Part}
 use Rattle.ticket.specs.declared.Part.the-variants.{Whole, Lower, Upper}
 
@@ -24,12 +25,12 @@ pub record Countable (F : Formula) : Type 0 where
 
 pub record Squarings (F : Formula) : Type 0 where
   -- where working answers 0, the number in the squarings' bytes is the count over the part's terms
-  pub counted : (part : Part) (p C row block : ℕ) (out count : List ℕ) → workAnswer F p C row block out count ≡ pos 0
-      → valueOf (workSquarings F part p C row block out count) ≡ partSquarings F part p C row block
+  pub counted : (part : Part) (p C row block : ℕ) (out count : List ℕ) → answered (workCall F part p C row block out count) ≡ pos 0
+      → valueOf (bytesLeft (workCall F part p C row block out count) 1) ≡ partSquarings F part p C row block
   -- a wrong size of either slice is refusal 1, and neither is written
   pub wrong-size : (part : Part) (p C row block : ℕ) (out count : List ℕ) → (length out ≡ 16 → ⊥) ⊎ (length count ≡ 16 → ⊥)
-      → (workAnswer F p C row block out count ≡ negℤ (pos 1))
-      × (workBytes F part p C row block out count ≡ out) × (workSquarings F part p C row block out count ≡ count)
+      → (answered (workCall F part p C row block out count) ≡ negℤ (pos 1))
+      × (bytesLeft (workCall F part p C row block out count) 0 ≡ out) × (bytesLeft (workCall F part p C row block out count) 1 ≡ count)
   -- at most 62 for each term, and the halves make the whole
   pub at-most : (part : Part) (p C row block : ℕ) → inRange (limitsOf F) p C ≡ true → isTicket (limitsOf F) C row block ≡ true
       → partSquarings F part p C row block ≤ 62 * partCount F part p C block
@@ -40,8 +41,8 @@ pub record Squarings (F : Formula) : Type 0 where
       → sum (partSquarings F Whole p C row) 0 C ≡ rangeSquarings F p (rowAt F row) 0 (termCount F p)
   -- a quote is refused as working is that has 16 bytes for the sum, and gives the same figure
   pub quoted : (part : Part) (p C row block : ℕ) (out count : List ℕ) → length out ≡ 16
-      → (quoteAnswer F p C row block count ≡ workAnswer F p C row block out count)
-      × (quoteSquarings F part p C row block count ≡ workSquarings F part p C row block out count)
+      → (answered (quoteCall F part p C row block count) ≡ answered (workCall F part p C row block out count))
+      × (bytesLeft (quoteCall F part p C row block count) 0 ≡ bytesLeft (workCall F part p C row block out count) 1)
   -- the sum over bit lengths is the sum over terms
   pub by-lengths : (part : Part) (p C row block : ℕ) → inRange (limitsOf F) p C ≡ true → isTicket (limitsOf F) C row block ≡ true
       → byLengths F p (rowAt F row) (partFirst F part p C block) (partEnd F part p C block) ≡ partSquarings F part p C row block

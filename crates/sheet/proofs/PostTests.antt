@@ -18,15 +18,17 @@ use Rattle.run.specs.declared.Refusal.{Refusal}
 use Rattle.run.specs.declared.Answer.{Answer}
 use Rattle.run.specs.declared.Answer.the-variants.{Finished, Refused}
 use Rattle.run.proofs.Range.{range-of, ticket-row, ticket-block, is-ticket}
-use Rattle.run.proofs.Answering.{passes, skipped, refused-first, refused, finished, changed, was-finished, was-number, was-refused}
+use Rattle.run.proofs.Answering.{passes, skipped, refused-first, refused, finished, was-finished, was-number}
 use Rattle.ledger.specs.Ledger.{viewOf, ledgerSize, posIn, blocksIn, markIn, inOrder}
 use Rattle.ledger.specs.Plain.{Entry}
 use Rattle.ledger.proofs.Posting.{mark-is-bit}
 use Rattle.sheet.specs.Sheet.{sheetMost, sheetPos, sheetBlocks, sheetCount, entriesFrom, entries, every, allTickets, wellFormed}
 use Rattle.sheet.specs.Tests.{byteTests, unset, Enterable}
-use Rattle.sheet.specs.Calls.{enterEntry, sheetRefusal, sheetAnswer, sheetBytes}
+use Rattle.sheet.specs.Calls.{enterEntry, sheetRefusal, sheetPostCall}
 use Rattle.sheet.proofs.Simulation.{every-and, formed, sheet-taken}
 use Rattle.sheet.proofs.Testing.{formed-length}
+use Rattle.run.specs.Call.{answered, refusedBy, Does}
+use Rattle.run.proofs.Calls.{finishes, was-worked, turned-down}
 
 -- two tests that agree on what passes a third
 every-same : (f g h : Entry → Bool) → ((t : Entry) → h t ≡ true → f t ≡ g t) → (ts : List Entry) → every h ts ≡ true → every f ts ≡ every g ts
@@ -59,18 +61,18 @@ module _ (lim : Limits) (ledger s : List ℕ) where
       (5 ⇐ not (inOrder lim ledger)) ∷ (6 ⇐ not (eqb (sheetPos s) (posIn ledger) && eqb (sheetBlocks s) (blocksIn ledger)))
       ∷ (7 ⇐ not (every (λ t. not (markIn lim ledger (t .row) (t .block))) (entries s))) ∷ []
 
-  pub ledger-size : (length ledger ≡ ledgerSize lim → ⊥) → negsuc 0 ≡ sheetAnswer lim ledger s
-  unfolding sheetAnswer sheetRefusal refusal answer viewOf
+  pub ledger-size : (length ledger ≡ ledgerSize lim → ⊥) → negsuc 0 ≡ answered (sheetPostCall lim ledger s)
+  unfolding sheetPostCall refusedBy answered sheetRefusal refusal answer viewOf
   ledger-size h = rw (ne-eqb _ _ h) refl
 
   module _ (sized : length ledger ≡ ledgerSize lim) where
-    pub short : length s < 16 → negsuc 0 ≡ sheetAnswer lim ledger s
-    unfolding sheetAnswer sheetRefusal refusal answer viewOf
+    pub short : length s < 16 → negsuc 0 ≡ answered (sheetPostCall lim ledger s)
+    unfolding sheetPostCall refusedBy answered sheetRefusal refusal answer viewOf
     short h = rw (eq-eqb _ _ sized, lt-ltb _ _ h) refl
 
     module _ (low : 16 ≤ length s) (most : ℕ) (m : most ≡ sheetMost lim) where
-      pub long : most < length s → negsuc 0 ≡ sheetAnswer lim ledger s
-      unfolding sheetAnswer sheetRefusal refusal answer viewOf
+      pub long : most < length s → negsuc 0 ≡ answered (sheetPostCall lim ledger s)
+      unfolding sheetPostCall refusedBy answered sheetRefusal refusal answer viewOf
       long h = rw (eq-eqb _ _ sized, le-ltb _ _ low, lt-ltb (sheetMost lim) (length s) (rw m at h)) refl
 
       module _ (high : length s ≤ most) (a : Answer) (tested : answerOf a ≡ answer (refusal (byteTests lim s)) 0) where
@@ -81,8 +83,8 @@ module _ (lim : Limits) (ledger s : List ℕ) where
         unfolding sheetRefusal viewOf
         by-bytes = skipped 1 _ _ (rw (eq-eqb _ _ sized, le-ltb _ _ low, le-ltb _ _ in-most) refl)
 
-        pub bytes-refused : (r : Refusal) → a ≡ Refused r → answerOf (Refused r) ≡ sheetAnswer lim ledger s
-        unfolding sheetAnswer
+        pub bytes-refused : (r : Refusal) → a ≡ Refused r → answerOf (Refused r) ≡ answered (sheetPostCall lim ledger s)
+        unfolding sheetPostCall refusedBy answered sheetRefusal
         bytes-refused r f =
             let n = was-number a r _ 0 f tested in
             sym (n .2) ∙ refused _ (n .0) 0 (by-bytes ∙ refused-first (byteTests lim s) ledgerTests (n .0) (n .1))
@@ -104,14 +106,14 @@ module _ (lim : Limits) (ledger s : List ℕ) where
           by-ledger =
               by-bytes ∙ skipped 2 _ _ (ap not range) ∙ skipped 3 _ ((4 ⇐ _) ∷ ledgerTests) (ap not form) ∙ skipped 4 _ ledgerTests (ap not tickets)
 
-          pub out-of-order : inOrder lim ledger ≡ false → negsuc 4 ≡ sheetAnswer lim ledger s
-          unfolding sheetAnswer refusal
+          pub out-of-order : inOrder lim ledger ≡ false → negsuc 4 ≡ answered (sheetPostCall lim ledger s)
+          unfolding sheetPostCall refusedBy answered sheetRefusal refusal
           out-of-order o = refused _ 4 0 (by-ledger ∙ rw o refl)
 
           module _ (o : inOrder lim ledger ≡ true) (p C : ℕ) (ep : p ≡ field s 0 8) (eC : C ≡ field s 8 2)
               (b : Bool) (same : b ≡ (eqb p (posIn ledger) && eqb C (blocksIn ledger))) where
-            pub other-run : b ≡ false → negsuc 5 ≡ sheetAnswer lim ledger s
-            unfolding sheetAnswer refusal sheetPos sheetBlocks
+            pub other-run : b ≡ false → negsuc 5 ≡ answered (sheetPostCall lim ledger s)
+            unfolding sheetPostCall refusedBy answered sheetRefusal refusal sheetPos sheetBlocks
             other-run u = refused _ 5 0 (by-ledger ∙ rw (o, ← ep, ← eC, ← same, u) refl)
 
             module _ (u : b ≡ true) (e : ℕ) (counted : e ≡ sheetCount s) where
@@ -132,19 +134,19 @@ module _ (lim : Limits) (ledger s : List ℕ) where
                 marks : every (λ t. not (markIn lim ledger (t .row) (t .block))) (entries s) ≡ n
                 marks = by-bits lim ledger _ _ (entries s) range tickets run ∙ ap (every (unset lim ledger)) all ∙ sym none
 
-                pub one-marked : n ≡ false → negsuc 6 ≡ sheetAnswer lim ledger s
-                unfolding sheetAnswer refusal sheetPos sheetBlocks
+                pub one-marked : n ≡ false → negsuc 6 ≡ answered (sheetPostCall lim ledger s)
+                unfolding sheetPostCall refusedBy answered sheetRefusal refusal sheetPos sheetBlocks
                 one-marked k = refused _ 6 0 (by-ledger ∙ rw (o, ← ep, ← eC, ← same, u, marks, k) refl)
 
-                pub admitted : n ≡ true → pos 0 ≡ sheetAnswer lim ledger s
-                unfolding sheetAnswer refusal sheetPos sheetBlocks
+                pub admitted : n ≡ true → pos 0 ≡ answered (sheetPostCall lim ledger s)
+                unfolding sheetPostCall refusedBy answered sheetRefusal refusal sheetPos sheetBlocks
                 admitted k = finished _ 0 (by-ledger ∙ rw (o, ← ep, ← eC, ← same, u, marks, k) refl)
 
 -- ---- after the tests, by what they answered
 
-module _ (lim : Limits) (ledger s : List ℕ) (a : Answer) (tested : answerOf a ≡ sheetAnswer lim ledger s) where
+module _ (lim : Limits) (ledger s : List ℕ) (a : Answer) (tested : answerOf a ≡ answered (sheetPostCall lim ledger s)) where
   pub none-applied : (v : ℕ) → a ≡ Finished v → Enterable lim ledger s
-  unfolding sheetAnswer viewOf
+  unfolding sheetPostCall refusedBy answered sheetRefusal viewOf
   none-applied v f =
       let t = sheet-taken lim (viewOf lim ledger) s (was-finished a v _ 0 f tested .0) in
       record {
@@ -156,10 +158,12 @@ module _ (lim : Limits) (ledger s : List ℕ) (a : Answer) (tested : answerOf a 
       }
 
   pub posted : (v : ℕ) (t : List ℕ) → a ≡ Finished v → t ≡ foldl (enterEntry lim) ledger (entries s)
-      → (pos 0 ≡ sheetAnswer lim ledger s) × (t ≡ sheetBytes lim ledger s)
-  unfolding sheetAnswer sheetBytes
-  posted v t f et = let z = was-finished a v _ 0 f tested .0 in (finished _ 0 z, et ∙ changed _ _ ledger z)
+      → Does (sheetPostCall lim ledger s) (pos 0) (t ∷ [])
+  unfolding sheetPostCall
+  posted v t f et =
+      let d = finishes (sheetPostCall lim ledger s) (was-worked _ a tested v f .0) in
+      (d .0, ap (λ (b : List ℕ). b ∷ []) et ∙ d .1)
 
-  pub not-posted : (r : Refusal) → a ≡ Refused r → (answerOf (Refused r) ≡ sheetAnswer lim ledger s) × (ledger ≡ sheetBytes lim ledger s)
-  unfolding sheetAnswer sheetBytes
-  not-posted r f = (sym (ap answerOf f) ∙ tested, was-refused a r _ 0 _ ledger f tested)
+  pub not-posted : (r : Refusal) → a ≡ Refused r → Does (sheetPostCall lim ledger s) (answerOf (Refused r)) (ledger ∷ [])
+  unfolding sheetPostCall
+  not-posted r f = turned-down (sheetPostCall lim ledger s) a tested r f

@@ -26,11 +26,12 @@ use Rattle.run.proofs.Range.{range-of, ticket-row, ticket-block}
 use Rattle.ledger.specs.Ledger.{View, viewOf}
 use Rattle.ledger.specs.Plain.{Entry}
 use Rattle.sheet.specs.Sheet.{sheetLength, sheetMost, listMost, sheetPos, sheetBlocks, sheetCount, entries, every, allTickets, key, ascending, wellFormed, contentsOf, bodiesOf, sheetOf, listOf, listed}
-use Rattle.sheet.specs.Calls.{over, writeRefusal, writeAnswer, writeBytes, readRefusal, readAnswer, readList, readSums, sheetRefusal, sheetAnswer}
+use Rattle.sheet.specs.Calls.{over, sheetRefusal, sheetPostCall, readCall, writeCall}
 use Rattle.sheet.specs.RoundTrip.{Fits, ReadsBack, WrittenReadsBack, Accepted, by-reading, by-posting, RightSums, AcceptedIsWritten}
 use Rattle.sheet.proofs.Simulation.{formed, sheet-taken}
 use Rattle.sheet.proofs.Many.{count-entries, count-listed}
 use Rattle.sheet.proofs.Sheets.{Fitting, pos-read, blocks-read, count-read, entries-read, sheet-again, length-contents}
+use Rattle.run.specs.Call.{answered, bytesLeft, refusedBy, allLeft}
 
 -- ---- what the writer has tested
 
@@ -42,8 +43,8 @@ pub record Taken (F : Formula) (p C : ℕ) (list out : List ℕ) : Type 0 where
   pub ascends : ascending (listed F p C list) ≡ true
   pub tickets : allTickets (limitsOf F) C (listed F p C list) ≡ true
 
-pub taken-of : (F : Formula) (p C : ℕ) (list out : List ℕ) → writeRefusal F p C list out ≡ 0 → Taken F p C list out
-unfolding writeRefusal
+pub taken-of : (F : Formula) (p C : ℕ) (list out : List ℕ) → refusedBy (writeCall F p C list out) ≡ 0 → Taken F p C list out
+unfolding writeCall refusedBy
 taken-of F p C list out e =
     let e₁ = passes 0 _ _ e in
     let e₂ = passes 1 _ _ (e₁ .1) in
@@ -61,8 +62,8 @@ taken-of F p C list out e =
       tickets = not-false _ (e₄ .0);
     }
 
-of-taken : (F : Formula) (p C : ℕ) (list out : List ℕ) → Taken F p C list out → writeRefusal F p C list out ≡ 0
-unfolding writeRefusal refusal
+of-taken : (F : Formula) (p C : ℕ) (list out : List ℕ) → Taken F p C list out → refusedBy (writeCall F p C list out) ≡ 0
+unfolding writeCall refusedBy refusal
 of-taken F p C list out t =
     let odd : eqb (length list % 2) 1 ≡ false = ne-eqb (length list % 2) 1 (λ q. let e = t .even in omega (arith, q, e)) in
     rw (
@@ -228,8 +229,8 @@ module _ (F : Formula) (fits : Fits F) (p C : ℕ) (list out list′ sums′ : L
   unfolding s
   entries-are = entries-read p C ts p-fits C-fits few entries-fit
 
-  not-refused : readRefusal (limitsOf F) s list′ sums′ ≡ 0
-  unfolding readRefusal refusal s ts
+  not-refused : refusedBy (readCall (limitsOf F) s list′ sums′) ≡ 0
+  unfolding readCall refusedBy refusal s ts
   not-refused =
       let len : length s ≡ sheetLength (length list / 2) = length-sheet p C ts ∙ ap sheetLength count in
       let h = t .short in
@@ -250,7 +251,7 @@ module _ (F : Formula) (fits : Fits F) (p C : ℕ) (list out list′ sums′ : L
       ) refl
 
   reads-back : ReadsBack F p C list (sheetOf p C (listed F p C list)) list′ sums′
-  unfolding readAnswer readList readSums answer ts s
+  unfolding readCall answered allLeft answer ts s
   reads-back = record {
     count = rw (not-refused, count-is) refl;
     list-is = rw (not-refused, entries-are, list-again F p C list bytes (t .even)) refl;
@@ -266,14 +267,14 @@ module _ (F : Formula) (fits : Fits F) (p C : ℕ) (list out list′ sums′ : L
       ∙ sym (ap₂ (λ (x y : ℕ). ticketSum F x y (t .row) (t .block)) (reads-back .pos-is) (reads-back .blocks-are))
 
 pub written-reads-back : (F : Formula) → Fits F → WrittenReadsBack F
-unfolding writeAnswer writeBytes
+unfolding writeCall answered allLeft
 written-reads-back F fits p C list out bytes n e =
-    let z = answering.not-refused (writeRefusal F p C list out) (sheetLength (length list / 2)) n e in
+    let z = answering.not-refused (refusedBy (writeCall F p C list out)) (sheetLength (length list / 2)) n e in
     let s = sheetOf p C (listed F p C list) in
     let l : length s ≡ n = length-sheet p C (listed F p C list) ∙ ap sheetLength (count-listed F p C list) ∙ z .1 in
     let t = taken-of F p C list out (z .0) in
-    let bytes-are : writeBytes F p C list out ≡ over s out = rw (z .0) refl in
-    let sheet-is : s ≡ take n (writeBytes F p C list out) = sym (ap (take n) bytes-are ∙ take-at s (drop (length s) out) n l) in
+    let bytes-are : bytesLeft (writeCall F p C list out) 0 ≡ over s out = rw (z .0) refl in
+    let sheet-is : s ≡ take n (bytesLeft (writeCall F p C list out) 0) = sym (ap (take n) bytes-are ∙ take-at s (drop (length s) out) n l) in
     let zeros : List ℕ = replicate (8 * length list) 0 in
     let room : 8 * length list ≤ length zeros = omega (arith, length-replicate {A = ℕ} (8 * length list) 0) in
     record {
@@ -348,9 +349,9 @@ module _ (F : Formula) (fits : Fits F) (s out : List ℕ) (bytes : AllBytes s) (
         tickets = ap (allTickets (limitsOf F) (sheetBlocks s)) listed-are ∙ acc .tickets;
       }
 
-  is-written : (writeAnswer F (sheetPos s) (sheetBlocks s) (listOf (entries s)) out ≡ pos (length s))
-      × (writeBytes F (sheetPos s) (sheetBlocks s) (listOf (entries s)) out ≡ over s out)
-  unfolding writeAnswer writeBytes answer
+  is-written : (answered (writeCall F (sheetPos s) (sheetBlocks s) (listOf (entries s)) out) ≡ pos (length s))
+      × (bytesLeft (writeCall F (sheetPos s) (sheetBlocks s) (listOf (entries s)) out) 0 ≡ over s out)
+  unfolding writeCall answered allLeft answer
   is-written = (
     rw (of-taken F (sheetPos s) (sheetBlocks s) (listOf (entries s)) out taken, half) (ap pos (sym length-is)),
     rw (of-taken F (sheetPos s) (sheetBlocks s) (listOf (entries s)) out taken, listed-are, again) refl,
@@ -358,8 +359,8 @@ module _ (F : Formula) (fits : Fits F) (s out : List ℕ) (bytes : AllBytes s) (
 
 -- ---- what the reader takes, and what a post takes
 
-read-passed : (lim : Limits) (s list sums : List ℕ) → readRefusal lim s list sums ≡ 0 → Passed lim s
-unfolding readRefusal
+read-passed : (lim : Limits) (s list sums : List ℕ) → refusedBy (readCall lim s list sums) ≡ 0 → Passed lim s
+unfolding readCall refusedBy
 read-passed lim s list sums e =
     let e₁ = passes 0 _ _ e in
     let e₂ = passes 1 _ _ (e₁ .1) in
@@ -382,7 +383,7 @@ post-passed lim v s e =
     record { size-low = t .size-low; size-high = t .size-high; range = t .range; formed = t .well-formed; tickets = t .tickets }
 
 passed : (lim : Limits) (s : List ℕ) → Accepted lim s → Passed lim s
-unfolding readAnswer sheetAnswer
+unfolding readCall answered sheetPostCall refusedBy sheetRefusal
 passed lim s (by-reading list sums e a) = read-passed lim s list sums (answering.not-refused _ _ e a .0)
 passed lim s (by-posting ledger a) = post-passed lim (viewOf lim ledger) s (answering.not-refused _ 0 0 a .0)
 

@@ -19,12 +19,13 @@ use Rattle.run.specs.Run.{Limits, inRange, isTicket}
 use Rattle.run.proofs.Answering.{passes}
 use Rattle.ledger.specs.Ledger.{View, viewOf, fresh}
 use Rattle.ledger.specs.Plain.{Plain, Entry, plainView, encode, admit, including, opened}
-use Rattle.ledger.specs.Calls.{ticketAnswer, ticketBytes}
+use Rattle.run.specs.Call.{refusedBy, answered, allLeft}
+use Rattle.ledger.specs.Calls.{ticketRefusal, postCall}
 use Rattle.ledger.proofs.Posting.{ticket-taken}
 use Rattle.ledger.proofs.RowSums.{adding-fits}
 use Rattle.ledger.proofs.Image.{Good, including-else, view-encode, enter-encode, fresh-encode}
 use Rattle.sheet.specs.Sheet.{every, allTickets, key, sheetLength, sheetMost, sheetPos, sheetBlocks, sheetCount, entries, ascending, wellFormed}
-use Rattle.sheet.specs.Calls.{sheetRefusal, sheetAnswer, sheetBytes, enterEntry}
+use Rattle.sheet.specs.Calls.{sheetRefusal, enterEntry, sheetPostCall}
 use Rattle.sheet.specs.Posts.{Post, ticket, sheet, postRefusal, postEntries, postBytes, postAnswer, plainAnswer, plainPost, postsBytes, postsAnswers, plainPosts, plainAnswers}
 
 -- ---- the plain ledger as opened
@@ -169,12 +170,12 @@ post-ready lim s (sheet b) e =
 
 post-bytes : (lim : Limits) (s : List ℕ) (a : Post)
     → postBytes lim s a ≡ cond (eqb (postRefusal lim (viewOf lim s) a) 0) (foldl (enterEntry lim) s (postEntries a)) s
-unfolding postBytes ticketBytes sheetBytes postRefusal postEntries
+unfolding postBytes postCall refusedBy allLeft ticketRefusal sheetPostCall sheetRefusal postRefusal postEntries
 post-bytes lim s (ticket p C row block sum) = refl
 post-bytes lim s (sheet b) = refl
 
 post-answer : (lim : Limits) (s : List ℕ) (a : Post) → postAnswer lim s a ≡ answer (postRefusal lim (viewOf lim s) a) 0
-unfolding postAnswer ticketAnswer sheetAnswer postRefusal
+unfolding postAnswer postCall refusedBy answered ticketRefusal sheetPostCall sheetRefusal postRefusal
 post-answer lim s (ticket p C row block sum) = refl
 post-answer lim s (sheet b) = refl
 

@@ -20,9 +20,10 @@ use Rattle.ledger.specs.Calls.{ticketRefusal}
 use Rattle.ledger.proofs.Image.{Good, view-encode}
 use Rattle.ledger.proofs.Decode.{encode-decode, good-decode}
 use Rattle.sheet.specs.Sheet.{sheetCount, sheetBlocks, sumIn, entriesFrom, entries}
-use Rattle.sheet.specs.Calls.{sheetRefusal, sheetAnswer, sheetBytes}
+use Rattle.sheet.specs.Calls.{sheetRefusal, sheetPostCall}
 use Rattle.sheet.specs.Posts.{ticket, sheet, postRefusal, postEntries, postBytes, plainAnswer, plainPost, postsBytes, postsAnswers, plainPosts, plainAnswers, singles, OneByOne}
 use Rattle.sheet.proofs.Simulation.{Ready, good-admit, post-ready, sheet-taken, step, posts-ledger, posts-answers}
+use Rattle.run.specs.Call.{answered, refusedBy, bytesLeft}
 
 -- a single post of a ticket of the run, with its p and C and a sum of 16 bytes, is refused only where the ticket is in the set
 pub not-refused : (lim : Limits) (s : Plain) (q D row block : ℕ) (x : List ℕ) → Good lim s → q ≡ s .p → D ≡ s .C → length x ≡ 16
@@ -79,7 +80,7 @@ module _ (lim : Limits) where
 
   -- on the bytes of a plain ledger
   encoded-singles : (s : Plain) (b : List ℕ) → Good lim s → AllBytes b → sheetRefusal lim (plainView s) b ≡ 0
-      → (postsBytes lim (encode lim s) (singles (s .p) (s .C) (entries b)) ≡ sheetBytes lim (encode lim s) b)
+      → (postsBytes lim (encode lim s) (singles (s .p) (s .C) (entries b)) ≡ bytesLeft (sheetPostCall lim (encode lim s) b) 0)
       × (postsAnswers lim (encode lim s) (singles (s .p) (s .C) (entries b)) ≡ replicate (length (entries b)) (pos 0))
   unfolding postRefusal postBytes
   encoded-singles s b g h e =
@@ -93,8 +94,8 @@ pub record Held (lim : Limits) (ledger b : List ℕ) : Type 0 where
   pub again : encode lim (decode lim ledger) ≡ ledger
   pub taken : sheetRefusal lim (plainView (decode lim ledger)) b ≡ 0
 
-pub held : (lim : Limits) → lim .last < 2 ^ 64 → (ledger b : List ℕ) → AllBytes ledger → sheetAnswer lim ledger b ≡ pos 0 → Held lim ledger b
-unfolding sheetAnswer viewOf
+pub held : (lim : Limits) → lim .last < 2 ^ 64 → (ledger b : List ℕ) → AllBytes ledger → answered (sheetPostCall lim ledger b) ≡ pos 0 → Held lim ledger b
+unfolding sheetPostCall refusedBy answered sheetRefusal viewOf
 held lim fits ledger b bytes e =
     let passed = answering.not-refused _ 0 0 e .0 in
     let t = sheet-taken lim (viewOf lim ledger) b passed in
@@ -111,7 +112,7 @@ sheet-as-singles lim fits ledger b bytes sheet-bytes e =
     let s = decode lim ledger in
     let t = sheet-taken lim (plainView s) b (h .taken) in
     let P : List ℕ → ℕ → ℕ → Type 0 =
-    (λ l p C. (postsBytes lim l (singles p C (entries b)) ≡ sheetBytes lim l b)
+    (λ l p C. (postsBytes lim l (singles p C (entries b)) ≡ bytesLeft (sheetPostCall lim l b) 0)
     × (postsAnswers lim l (singles p C (entries b)) ≡ replicate (length (entries b)) (pos 0))) in
     subst (λ (p : ℕ). P ledger p (sheetBlocks b)) (sym (t .same-p))
     (subst (λ (C : ℕ). P ledger (s .p) C) (sym (t .same-C))

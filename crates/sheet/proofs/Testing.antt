@@ -1,8 +1,8 @@
 -- The tests of a sheet's bytes as the code makes them: the form, then 2, 3 and 4, then reading's own sizes. One law for each way out.
 -- Assumes nothing.
-use mathlib.Core.Path.{_≡_, refl, sym, ap, _∙_}
+use mathlib.Core.Path.{_≡_, refl, sym, ap, _∙_, ap₂}
 use mathlib.Core.Bool.{Bool, true, false, _||_}
-use mathlib.Core.List.{List}
+use mathlib.Core.List.{List, [], _∷_}
 use Prim.Native.Nat.{ℕ, _+_, _*_, _<_, _≤_}
 use native.Mathlib.Omega.{arith}
 use borrow.Author.Tests.{eqb-true, eq-eqb, ne-eqb, ltb-false, lt-ltb, le-ltb, not-false}
@@ -18,11 +18,13 @@ use Rattle.run.specs.Answers.{answerOf}
 use Rattle.run.specs.declared.Refusal.{Refusal}
 use Rattle.run.specs.declared.Answer.{Answer}
 use Rattle.run.specs.declared.Answer.the-variants.{Finished, Refused}
-use Rattle.run.proofs.Answering.{passes, skipped, refused, finished, changed, was-finished, was-number, was-refused}
+use Rattle.run.proofs.Answering.{passes, skipped, refused, finished, was-finished, was-number}
 use Rattle.ledger.specs.Plain.{Entry}
 use Rattle.sheet.specs.Sheet.{sheetMost, sheetPos, sheetBlocks, sheetCount, entriesFrom, entries, allTickets, ascending, wellFormed, listOf, bodiesOf}
 use Rattle.sheet.specs.Tests.{byteTests}
-use Rattle.sheet.specs.Calls.{over, readRefusal, readAnswer, readList, readSums}
+use Rattle.sheet.specs.Calls.{over, readCall}
+use Rattle.run.specs.Call.{answered, refusedBy, Does}
+use Rattle.run.proofs.Calls.{works, turned-down}
 
 -- ---- the form
 
@@ -73,41 +75,41 @@ module _ (lim : Limits) (s : List ℕ) (p C : ℕ) (ep : p ≡ field s 0 8) (eC 
 -- ---- reading: the sizes, then the tests of the bytes
 
 module _ (lim : Limits) (s list sums : List ℕ) where
-  pub read-short : length s < 16 → negsuc 0 ≡ readAnswer lim s list sums
-  unfolding readAnswer readRefusal refusal answer
+  pub read-short : length s < 16 → negsuc 0 ≡ answered (readCall lim s list sums)
+  unfolding readCall answered refusedBy refusal answer
   read-short h = rw (lt-ltb _ _ h) refl
 
   module _ (low : 16 ≤ length s) where
-    pub read-long : (most : ℕ) → most ≡ sheetMost lim → most < length s → negsuc 0 ≡ readAnswer lim s list sums
-    unfolding readAnswer readRefusal refusal answer
+    pub read-long : (most : ℕ) → most ≡ sheetMost lim → most < length s → negsuc 0 ≡ answered (readCall lim s list sums)
+    unfolding readCall answered refusedBy refusal answer
     read-long most m h = rw (le-ltb _ _ low, lt-ltb (sheetMost lim) (length s) (rw m at h)) refl
 
     module _ (most : ℕ) (m : most ≡ sheetMost lim) (high : length s ≤ most) (e : ℕ) (counted : e ≡ sheetCount s) where
       in-most : length s ≤ sheetMost lim
       in-most = rw m at high
 
-      pub list-short : length list < 2 * e → negsuc 0 ≡ readAnswer lim s list sums
-      unfolding readAnswer readRefusal refusal answer
+      pub list-short : length list < 2 * e → negsuc 0 ≡ answered (readCall lim s list sums)
+      unfolding readCall answered refusedBy refusal answer
       list-short h = rw (← counted, le-ltb _ _ low, le-ltb _ _ in-most, lt-ltb _ _ h) refl
 
       module _ (room : 2 * e ≤ length list) where
-        pub sums-short : length sums < 16 * e → negsuc 0 ≡ readAnswer lim s list sums
-        unfolding readAnswer readRefusal refusal answer
+        pub sums-short : length sums < 16 * e → negsuc 0 ≡ answered (readCall lim s list sums)
+        unfolding readCall answered refusedBy refusal answer
         sums-short h = rw (← counted, le-ltb _ _ low, le-ltb _ _ in-most, le-ltb _ _ room, lt-ltb _ _ h) refl
 
         module _ (more : 16 * e ≤ length sums) (a : Answer) (tested : answerOf a ≡ answer (refusal (byteTests lim s)) 0) where
-          by-bytes : readRefusal lim s list sums ≡ refusal (byteTests lim s)
-          unfolding readRefusal
+          by-bytes : refusedBy (readCall lim s list sums) ≡ refusal (byteTests lim s)
+          unfolding readCall refusedBy
           by-bytes = skipped 1 _ _ (rw (← counted, le-ltb _ _ low, le-ltb _ _ in-most, le-ltb _ _ room, le-ltb _ _ more) refl)
 
-          pub read-refused : (r : Refusal) → a ≡ Refused r → answerOf (Refused r) ≡ readAnswer lim s list sums
-          unfolding readAnswer
+          pub read-refused : (r : Refusal) → a ≡ Refused r → answerOf (Refused r) ≡ answered (readCall lim s list sums)
+          unfolding readCall answered
           read-refused r f =
               let n = was-number a r _ 0 f tested in
               sym (n .2) ∙ refused _ (n .0) (sheetCount s) (by-bytes ∙ n .1)
 
-          pub read-accepted : (v : ℕ) → a ≡ Finished v → pos e ≡ readAnswer lim s list sums
-          unfolding readAnswer
+          pub read-accepted : (v : ℕ) → a ≡ Finished v → pos e ≡ answered (readCall lim s list sums)
+          unfolding readCall answered
           read-accepted v f = ap pos counted ∙ finished _ (sheetCount s) (by-bytes ∙ was-finished a v _ 0 f tested .0)
 
 -- ---- after the tests, by what they answered
@@ -119,8 +121,8 @@ pub record Readable (s list sums : List ℕ) (v : ℕ) : Type 0 where
   pub list-room : 2 * v ≤ length list
   pub sums-room : 16 * v ≤ length sums
 
-readable : (lim : Limits) (s list sums : List ℕ) (v : ℕ) → readRefusal lim s list sums ≡ 0 → v ≡ sheetCount s → Readable s list sums v
-unfolding readRefusal
+readable : (lim : Limits) (s list sums : List ℕ) (v : ℕ) → refusedBy (readCall lim s list sums) ≡ 0 → v ≡ sheetCount s → Readable s list sums v
+unfolding readCall refusedBy
 readable lim s list sums v e count =
     let a = passes 0 _ _ e in
     let f = passes 2 _ _ (passes 1 _ _ (a .1) .1) in
@@ -134,30 +136,23 @@ readable lim s list sums v e count =
       sums-room = omega (arith, ltb-false (length sums) (16 * sheetCount s) (d .1), count);
     }
 
-module _ (lim : Limits) (s list sums : List ℕ) (a : Answer) (tested : answerOf a ≡ readAnswer lim s list sums) where
+module _ (lim : Limits) (s list sums : List ℕ) (a : Answer) (tested : answerOf a ≡ answered (readCall lim s list sums)) where
   module _ (v : ℕ) (f : a ≡ Finished v) where
-    number-zero : (readRefusal lim s list sums ≡ 0) × (v ≡ sheetCount s)
-    unfolding readAnswer
+    number-zero : (refusedBy (readCall lim s list sums) ≡ 0) × (v ≡ sheetCount s)
+    unfolding readCall answered
     number-zero = was-finished a v _ _ f tested
 
     pub none-applied : Readable s list sums v
     none-applied = readable lim s list sums v (number-zero .0) (number-zero .1)
 
     pub read-done : (l m : List ℕ) → l ≡ over (listOf (entriesFrom s 0 v)) list → m ≡ over (bodiesOf (entriesFrom s 0 v)) sums
-        → (pos v ≡ readAnswer lim s list sums) × ((l ≡ readList lim s list sums) × (m ≡ readSums lim s list sums))
-    unfolding readList readSums entries
+        → Does (readCall lim s list sums) (pos v) (l ∷ m ∷ [])
+    unfolding readCall entries
     read-done l m el em =
-        let z = number-zero .0 in
-        let all = ap (entriesFrom s 0) (number-zero .1) in (
-          ap answerOf (sym f) ∙ tested,
-          (
-            el ∙ ap (λ (ts : List Entry). over (listOf ts) list) all ∙ changed _ _ list z,
-            em ∙ ap (λ (ts : List Entry). over (bodiesOf ts) sums) all ∙ changed _ _ sums z,
-          ),
-        )
+        let all = ap (entriesFrom s 0) (number-zero .1) in
+        let d = works (readCall lim s list sums) a tested v f in
+        (d .0, ap₂ (λ (x y : List ℕ). x ∷ y ∷ []) (el ∙ ap (λ (ts : List Entry). over (listOf ts) list) all) (em ∙ ap (λ (ts : List Entry). over (bodiesOf ts) sums) all) ∙ d .1)
 
-  pub not-read : (r : Refusal) → a ≡ Refused r
-      → (answerOf (Refused r) ≡ readAnswer lim s list sums) × ((list ≡ readList lim s list sums) × (sums ≡ readSums lim s list sums))
-  unfolding readAnswer readList readSums
-  not-read r f =
-      (ap answerOf (sym f) ∙ tested, (was-refused a r _ (sheetCount s) _ list f tested, was-refused a r _ (sheetCount s) _ sums f tested))
+  pub not-read : (r : Refusal) → a ≡ Refused r → Does (readCall lim s list sums) (answerOf (Refused r)) (list ∷ sums ∷ [])
+  unfolding readCall
+  not-read r f = turned-down (readCall lim s list sums) a tested r f

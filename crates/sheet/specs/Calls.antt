@@ -1,12 +1,13 @@
 -- Writing, reading and posting a sheet: the refusals, the answer, and the bytes that each call leaves in each buffer.
-use mathlib.Core.Bool.{not, cond, _&&_, _||_}
+use mathlib.Core.Path.{refl}
+use mathlib.Core.Bool.{not, _&&_, _||_}
 use mathlib.Core.List.{List, [], _∷_, _++_, foldl}
 use Prim.Native.Nat.{ℕ, _+_, _*_, _/_, _%_}
 use lib.Dec.{ltb, eqb}
-use lib.IntN.{ℤ}
 use lib.ListN.{length, drop}
 use Rattle.series.specs.Series.{Formula}
-use Rattle.run.specs.Refusal.{Test, _⇐_, refusal, answer}
+use Rattle.run.specs.Refusal.{Test, _⇐_, refusal}
+use Rattle.run.specs.Call.{Call, slice}
 use Rattle.run.specs.Run.{Limits, limitsOf, inRange}
 use Rattle.ledger.specs.Ledger.{View, viewOf, enter}
 use Rattle.ledger.specs.Plain.{Entry}
@@ -18,41 +19,29 @@ over s out = s ++ drop (length s) out
 
 -- ---- writing: e is half the list's length
 
-abbrev pub writeTests : Formula → ℕ → ℕ → List ℕ → List ℕ → List Test
-writeTests F p C list out =
-    (1 ⇐ eqb (length list % 2) 1 || ltb (listMost (limitsOf F)) (length list) || ltb (length out) (sheetLength (length list / 2)))
-    ∷ (2 ⇐ not (inRange (limitsOf F) p C)) ∷ (3 ⇐ not (ascending (listed F p C list)))
-    ∷ (4 ⇐ not (allTickets (limitsOf F) C (listed F p C list))) ∷ []
-
-unfoldable pub writeRefusal : Formula → ℕ → ℕ → List ℕ → List ℕ → ℕ
-writeRefusal F p C list out = refusal (writeTests F p C list out)
-
-unfoldable pub writeAnswer : Formula → ℕ → ℕ → List ℕ → List ℕ → ℤ
-writeAnswer F p C list out = answer (writeRefusal F p C list out) (sheetLength (length list / 2))
-
-unfoldable pub writeBytes : Formula → ℕ → ℕ → List ℕ → List ℕ → List ℕ
-writeBytes F p C list out =
-    cond (eqb (writeRefusal F p C list out) 0) (over (sheetOf p C (listed F p C list)) out) out
+unfoldable pub writeCall : Formula → ℕ → ℕ → List ℕ → List ℕ → Call
+writeCall F p C list out = record {
+  tests =
+      (1 ⇐ eqb (length list % 2) 1 || ltb (listMost (limitsOf F)) (length list) || ltb (length out) (sheetLength (length list / 2)))
+      ∷ (2 ⇐ not (inRange (limitsOf F) p C)) ∷ (3 ⇐ not (ascending (listed F p C list)))
+      ∷ (4 ⇐ not (allTickets (limitsOf F) C (listed F p C list))) ∷ [];
+  in-order = refl;
+  value = sheetLength (length list / 2);
+  slices = slice out (over (sheetOf p C (listed F p C list)) out) ∷ [];
+}
 
 -- ---- reading: a list of the tickets and their sums, to two outputs
 
-abbrev pub readTests : Limits → List ℕ → List ℕ → List ℕ → List Test
-readTests lim s list sums =
-    (1 ⇐ ltb (length s) 16 || ltb (sheetMost lim) (length s) || ltb (length list) (2 * sheetCount s) || ltb (length sums) (16 * sheetCount s))
-    ∷ (2 ⇐ not (inRange lim (sheetPos s) (sheetBlocks s))) ∷ (3 ⇐ not (wellFormed s))
-    ∷ (4 ⇐ not (allTickets lim (sheetBlocks s) (entries s))) ∷ []
-
-unfoldable pub readRefusal : Limits → List ℕ → List ℕ → List ℕ → ℕ
-readRefusal lim s list sums = refusal (readTests lim s list sums)
-
-unfoldable pub readAnswer : Limits → List ℕ → List ℕ → List ℕ → ℤ
-readAnswer lim s list sums = answer (readRefusal lim s list sums) (sheetCount s)
-
-unfoldable pub readList : Limits → List ℕ → List ℕ → List ℕ → List ℕ
-readList lim s list sums = cond (eqb (readRefusal lim s list sums) 0) (over (listOf (entries s)) list) list
-
-unfoldable pub readSums : Limits → List ℕ → List ℕ → List ℕ → List ℕ
-readSums lim s list sums = cond (eqb (readRefusal lim s list sums) 0) (over (bodiesOf (entries s)) sums) sums
+unfoldable pub readCall : Limits → List ℕ → List ℕ → List ℕ → Call
+readCall lim s list sums = record {
+  tests =
+      (1 ⇐ ltb (length s) 16 || ltb (sheetMost lim) (length s) || ltb (length list) (2 * sheetCount s) || ltb (length sums) (16 * sheetCount s))
+      ∷ (2 ⇐ not (inRange lim (sheetPos s) (sheetBlocks s))) ∷ (3 ⇐ not (wellFormed s))
+      ∷ (4 ⇐ not (allTickets lim (sheetBlocks s) (entries s))) ∷ [];
+  in-order = refl;
+  value = sheetCount s;
+  slices = slice list (over (listOf (entries s)) list) ∷ slice sums (over (bodiesOf (entries s)) sums) ∷ [];
+}
 
 -- ---- posting a sheet: `v` is what is seen of the ledger
 
@@ -71,9 +60,11 @@ sheetRefusal lim v s = refusal (sheetTests lim v s)
 abbrev pub enterEntry : Limits → List ℕ → Entry → List ℕ
 enterEntry lim s t = enter lim s (t .row) (t .block) (t .sum)
 
-unfoldable pub sheetAnswer : Limits → List ℕ → List ℕ → ℤ
-sheetAnswer lim ledger s = answer (sheetRefusal lim (viewOf lim ledger) s) 0
-
 -- all of its tickets in order, or none
-unfoldable pub sheetBytes : Limits → List ℕ → List ℕ → List ℕ
-sheetBytes lim ledger s = cond (eqb (sheetRefusal lim (viewOf lim ledger) s) 0) (foldl (enterEntry lim) ledger (entries s)) ledger
+unfoldable pub sheetPostCall : Limits → List ℕ → List ℕ → Call
+sheetPostCall lim ledger s = record {
+  tests = sheetTests lim (viewOf lim ledger) s;
+  in-order = refl;
+  value = 0;
+  slices = slice ledger (foldl (enterEntry lim) ledger (entries s)) ∷ [];
+}

@@ -12,9 +12,10 @@ use Rattle.run.specs.Refusal.{answer}
 use Rattle.run.specs.Run.{Limits}
 use Rattle.ledger.specs.Ledger.{View}
 use Rattle.ledger.specs.Plain.{Entry, Plain, plainView, admit, isOf}
-use Rattle.ledger.specs.Calls.{ticketRefusal, ticketAnswer, ticketBytes}
+use Rattle.ledger.specs.Calls.{ticketRefusal, postCall}
 use Rattle.sheet.specs.Sheet.{sheetPos, sheetBlocks, entries}
-use Rattle.sheet.specs.Calls.{sheetRefusal, sheetAnswer, sheetBytes}
+use Rattle.sheet.specs.Calls.{sheetRefusal, sheetPostCall}
+use Rattle.run.specs.Call.{answered, bytesLeft}
 
 -- A post, by its arguments beside the ledger: p, C, row, block and the bytes of a sum; or the bytes of a sheet.
 pub data Post : Type 0 where
@@ -29,12 +30,12 @@ postRefusal lim v (sheet s) = sheetRefusal lim v s
 
 -- on the bytes: what the two calls answer and leave
 unfoldable pub postAnswer : Limits → List ℕ → Post → ℤ
-postAnswer lim s (ticket p C row block sum) = ticketAnswer lim s p C row block sum
-postAnswer lim s (sheet b) = sheetAnswer lim s b
+postAnswer lim s (ticket p C row block sum) = answered (postCall lim s p C row block sum)
+postAnswer lim s (sheet b) = answered (sheetPostCall lim s b)
 
 unfoldable pub postBytes : Limits → List ℕ → Post → List ℕ
-postBytes lim s (ticket p C row block sum) = ticketBytes lim s p C row block sum
-postBytes lim s (sheet b) = sheetBytes lim s b
+postBytes lim s (ticket p C row block sum) = bytesLeft (postCall lim s p C row block sum) 0
+postBytes lim s (sheet b) = bytesLeft (sheetPostCall lim s b) 0
 
 -- the tickets that a post names, in order, with the sums offered
 unfoldable pub postEntries : Post → List Entry
@@ -76,8 +77,8 @@ singles p C (t ∷ ts) = ticket p C (t .row) (t .block) (bytesOf 16 (t .sum)) �
 -- answered 0.
 abbrev pub OneByOne : Limits → Type 0
 OneByOne lim =
-    (ledger s : List ℕ) → AllBytes ledger → AllBytes s → sheetAnswer lim ledger s ≡ pos 0
-    → (postsBytes lim ledger (singles (sheetPos s) (sheetBlocks s) (entries s)) ≡ sheetBytes lim ledger s)
+    (ledger s : List ℕ) → AllBytes ledger → AllBytes s → answered (sheetPostCall lim ledger s) ≡ pos 0
+    → (postsBytes lim ledger (singles (sheetPos s) (sheetBlocks s) (entries s)) ≡ bytesLeft (sheetPostCall lim ledger s) 0)
     × (postsAnswers lim ledger (singles (sheetPos s) (sheetBlocks s) (entries s)) ≡ replicate (length (entries s)) (pos 0))
 
 -- ---- where a ticket occurs

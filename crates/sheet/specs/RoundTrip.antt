@@ -10,7 +10,8 @@ use Rattle.series.specs.Series.{Formula, rowCount}
 use Rattle.run.specs.Run.{Limits, limitsOf, ticketSum}
 use Rattle.ledger.specs.Plain.{Entry}
 use Rattle.sheet.specs.Sheet.{sheetLength, sheetPos, sheetBlocks, entries, bodiesOf, listOf, listed}
-use Rattle.sheet.specs.Calls.{over, writeAnswer, writeBytes, readAnswer, readList, readSums, sheetAnswer}
+use Rattle.sheet.specs.Calls.{over, writeCall, readCall, sheetPostCall}
+use Rattle.run.specs.Call.{answered, bytesLeft}
 
 -- rows fit a byte, and positions 8 bytes
 pub record Fits (F : Formula) : Type 0 where
@@ -19,8 +20,8 @@ pub record Fits (F : Formula) : Type 0 where
 
 -- A sheet is accepted where a call takes it: the reader with some outputs, or a post on some ledger.
 pub data Accepted (lim : Limits) (s : List ℕ) : Type 0 where
-  by-reading : (list sums : List ℕ) (e : ℕ) → readAnswer lim s list sums ≡ pos e → Accepted lim s
-  by-posting : (ledger : List ℕ) → sheetAnswer lim ledger s ≡ pos 0 → Accepted lim s
+  by-reading : (list sums : List ℕ) (e : ℕ) → answered (readCall lim s list sums) ≡ pos e → Accepted lim s
+  by-posting : (ledger : List ℕ) → answered (sheetPostCall lim ledger s) ≡ pos 0 → Accepted lim s
 
 -- each sum is its ticket's
 unfoldable pub RightSums : Formula → List ℕ → Type 0
@@ -29,9 +30,9 @@ RightSums F s =
 
 -- The reader takes the sheet s and gives back the list, the sums, p and C.
 pub record ReadsBack (F : Formula) (p C : ℕ) (list s list′ sums′ : List ℕ) : Type 0 where
-  pub count : readAnswer (limitsOf F) s list′ sums′ ≡ pos (length list / 2)
-  pub list-is : readList (limitsOf F) s list′ sums′ ≡ over list list′
-  pub sums-are : readSums (limitsOf F) s list′ sums′ ≡ over (bodiesOf (listed F p C list)) sums′
+  pub count : answered (readCall (limitsOf F) s list′ sums′) ≡ pos (length list / 2)
+  pub list-is : bytesLeft (readCall (limitsOf F) s list′ sums′) 0 ≡ over list list′
+  pub sums-are : bytesLeft (readCall (limitsOf F) s list′ sums′) 1 ≡ over (bodiesOf (listed F p C list)) sums′
   pub pos-is : sheetPos s ≡ p
   pub blocks-are : sheetBlocks s ≡ C
 
@@ -39,18 +40,18 @@ pub record ReadsBack (F : Formula) (p C : ℕ) (list s list′ sums′ : List �
 -- them back with any two outputs that have the room.
 pub record Written (F : Formula) (p C : ℕ) (list out : List ℕ) (n : ℕ) : Type 0 where
   pub length-is : n ≡ sheetLength (length list / 2)
-  pub rest : drop n (writeBytes F p C list out) ≡ drop n out
-  pub accepted : Accepted (limitsOf F) (take n (writeBytes F p C list out))
-  pub right : RightSums F (take n (writeBytes F p C list out))
+  pub rest : drop n (bytesLeft (writeCall F p C list out) 0) ≡ drop n out
+  pub accepted : Accepted (limitsOf F) (take n (bytesLeft (writeCall F p C list out) 0))
+  pub right : RightSums F (take n (bytesLeft (writeCall F p C list out) 0))
   pub reads-back : (list′ sums′ : List ℕ) → length list ≤ length list′ → 8 * length list ≤ length sums′
-      → ReadsBack F p C list (take n (writeBytes F p C list out)) list′ sums′
+      → ReadsBack F p C list (take n (bytesLeft (writeCall F p C list out) 0)) list′ sums′
 
 abbrev pub WrittenReadsBack : Formula → Type 0
-WrittenReadsBack F = (p C : ℕ) (list out : List ℕ) → AllBytes list → (n : ℕ) → writeAnswer F p C list out ≡ pos n → Written F p C list out n
+WrittenReadsBack F = (p C : ℕ) (list out : List ℕ) → AllBytes list → (n : ℕ) → answered (writeCall F p C list out) ≡ pos n → Written F p C list out n
 
 -- An accepted sheet with right sums is byte for byte the one that the writer writes of its p, C and list, where the output has the room.
 abbrev pub AcceptedIsWritten : Formula → Type 0
 AcceptedIsWritten F =
     (s out : List ℕ) → AllBytes s → Accepted (limitsOf F) s → RightSums F s → length s ≤ length out
-    → (writeAnswer F (sheetPos s) (sheetBlocks s) (listOf (entries s)) out ≡ pos (length s))
-    × (writeBytes F (sheetPos s) (sheetBlocks s) (listOf (entries s)) out ≡ over s out)
+    → (answered (writeCall F (sheetPos s) (sheetBlocks s) (listOf (entries s)) out) ≡ pos (length s))
+    × (bytesLeft (writeCall F (sheetPos s) (sheetBlocks s) (listOf (entries s)) out) 0 ≡ over s out)

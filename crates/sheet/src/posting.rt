@@ -5,16 +5,17 @@ use run::Refusal;
 use series::Series;
 ghost use mathlib.Core.Path.{_≡_};
 ghost use mathlib.Core.Bool.{true};
-ghost use mathlib.Core.List.{foldl};
+ghost use mathlib.Core.List.{[], _∷_, foldl};
 ghost use Prim.Native.Nat.{_+_, _*_, _≤_};
 ghost use lib.ListN.{length};
 ghost use Rattle.series.specs.Names.{formulaOf};
 ghost use Rattle.run.specs.Run.{limitsOf};
 ghost use Rattle.run.specs.Answers.{answerOf};
+ghost use Rattle.run.specs.Call.{Does, answered};
 ghost use Rattle.ledger.specs.Ledger.{ledgerSize};
 ghost use Rattle.sheet.specs.Sheet.{entriesFrom, entries, every, allTickets};
 ghost use Rattle.sheet.specs.Tests.{unset, Enterable};
-ghost use Rattle.sheet.specs.Calls.{enterEntry, sheetAnswer, sheetBytes};
+ghost use Rattle.sheet.specs.Calls.{enterEntry, sheetPostCall};
 
 // Whether none of e entries, each of a row and block that the ledger has, has its bit set.
 pub fn none_marked(f: Series, ledger: &[u8], s: &[u8], e: usize) -> bool
@@ -38,7 +39,7 @@ pub fn none_marked(f: Series, ledger: &[u8], s: &[u8], e: usize) -> bool
 
 // What the refusal table says of posting a sheet: its tests in the order of their numbers.
 pub fn test_sheet(f: Series, ledger: &[u8], s: &[u8]) -> Answer
-    ensures { λ r. ⌜ answerOf r ≡ sheetAnswer (limitsOf (formulaOf f)) (now (ledger .entry)) (now (s .entry)) ⌝ }
+    ensures { λ r. ⌜ answerOf r ≡ answered (sheetPostCall (limitsOf (formulaOf f)) (now (ledger .entry)) (now (s .entry))) ⌝ }
 {
     if ledger.len() != ledger::ledger_size(f) {
         return Answer::Refused(Refusal::WrongSize);
@@ -85,8 +86,7 @@ pub fn enter_all(f: Series, ledger: &mut [u8], s: &[u8])
 
 // Posts a sheet. All tests are done before a byte is written.
 pub fn post(f: Series, ledger: &mut [u8], s: &[u8]) -> Answer
-    ensures answers { λ r. ⌜ answerOf r ≡ sheetAnswer (limitsOf (formulaOf f)) (now (ledger .entry)) (now (s .entry)) ⌝ }
-    ensures leaves { λ _. ⌜ now (ledger .exit) ≡ sheetBytes (limitsOf (formulaOf f)) (now (ledger .entry)) (now (s .entry)) ⌝ }
+    ensures { λ r. ⌜ Does (sheetPostCall (limitsOf (formulaOf f)) (now (ledger .entry)) (now (s .entry))) (answerOf r) (now (ledger .exit) ∷ []) ⌝ }
 {
     match test_sheet(f, ledger, s) {
         Answer::Finished(_) => {

@@ -3,18 +3,20 @@ use crate::contents;
 use run::Answer;
 use run::Refusal;
 use series::Series;
+ghost use mathlib.Core.List.{[], _∷_};
 ghost use mathlib.Core.Path.{_≡_};
 ghost use Prim.Native.Nat.{_+_, _*_, _≤_};
 ghost use lib.ListN.{length};
 ghost use Rattle.series.specs.Names.{formulaOf};
 ghost use Rattle.run.specs.Run.{limitsOf};
 ghost use Rattle.run.specs.Answers.{answerOf};
-ghost use Rattle.sheet.specs.Sheet.{sheetCount, entriesFrom, entries, listOf, bodiesOf};
-ghost use Rattle.sheet.specs.Calls.{over, readAnswer, readList, readSums};
+ghost use Rattle.run.specs.Call.{Does, answered};
+ghost use Rattle.sheet.specs.Sheet.{sheetCount, entriesFrom, listOf, bodiesOf};
+ghost use Rattle.sheet.specs.Calls.{over, readCall};
 
 // What the refusal table says of reading: its tests in the order of their numbers.
 pub fn test_read(f: Series, s: &[u8], list: &[u8], sums: &[u8]) -> Answer
-    ensures { λ r. ⌜ answerOf r ≡ readAnswer (limitsOf (formulaOf f)) (now (s .entry)) (now (list .entry)) (now (sums .entry)) ⌝ }
+    ensures { λ r. ⌜ answerOf r ≡ answered (readCall (limitsOf (formulaOf f)) (now (s .entry)) (now (list .entry)) (now (sums .entry))) ⌝ }
 {
     if s.len() < 16 {
         return Answer::Refused(Refusal::WrongSize);
@@ -61,9 +63,7 @@ pub fn put_sums(s: &[u8], e: usize, sums: &mut [u8])
 
 // Reads a sheet. All tests are done before a byte is written.
 pub fn read(f: Series, s: &[u8], list: &mut [u8], sums: &mut [u8]) -> Answer
-    ensures answers { λ r. ⌜ answerOf r ≡ readAnswer (limitsOf (formulaOf f)) (now (s .entry)) (now (list .entry)) (now (sums .entry)) ⌝ }
-    ensures lists { λ _. ⌜ now (list .exit) ≡ readList (limitsOf (formulaOf f)) (now (s .entry)) (now (list .entry)) (now (sums .entry)) ⌝ }
-    ensures sums { λ _. ⌜ now (sums .exit) ≡ readSums (limitsOf (formulaOf f)) (now (s .entry)) (now (list .entry)) (now (sums .entry)) ⌝ }
+    ensures { λ r. ⌜ Does (readCall (limitsOf (formulaOf f)) (now (s .entry)) (now (list .entry)) (now (sums .entry))) (answerOf r) (now (list .exit) ∷ now (sums .exit) ∷ []) ⌝ }
 {
     match test_read(f, s, list, sums) {
         Answer::Finished(e) => {

@@ -5,6 +5,7 @@ use series::Series;
 use series::terms::Worked;
 use words::Wide;
 ghost use mathlib.Core.Path.{_≡_};
+ghost use mathlib.Core.List.{[], _∷_};
 ghost use mathlib.Core.Bool.{true};
 ghost use Prim.Native.Nat.{_^_, _≤_, _<_};
 ghost use Rattle.words.specs.Words.{joined};
@@ -12,8 +13,9 @@ ghost use Rattle.series.specs.Names.{formulaOf};
 ghost use Rattle.run.specs.Run.{limitsOf, inRange, isTicket};
 ghost use Rattle.run.specs.Run as definition;
 ghost use Rattle.run.specs.Answers.{answerOf};
+ghost use Rattle.run.specs.Call.{answered, Does};
 ghost use Rattle.ticket.specs.Parts.{partFirst, partEnd, partSum, partSquarings};
-ghost use Rattle.ticket.specs.Work.{isSized, bothSized, partAnswer, workAnswer, workBytes, workSquarings, quoteAnswer, quoteSquarings};
+ghost use Rattle.ticket.specs.Work.{isSized, bothSized, testCall, workCall, quoteCall};
 
 // Which of a ticket's terms are worked: all of them, or those below or from the cut on.
 pub enum Part {
@@ -76,7 +78,7 @@ pub fn squarings(f: Series, part: Part, p: u64, c: u64, row: u64, block: u64) ->
 
 // What the refusal table says of working and of quoting: its tests in the order of their numbers.
 pub fn test_part(f: Series, p: u64, c: u64, row: u64, block: u64, sized: bool) -> Answer
-    ensures { λ r. ⌜ answerOf r ≡ partAnswer (formulaOf f) p c row block sized ⌝ }
+    ensures { λ r. ⌜ answerOf r ≡ answered (testCall (formulaOf f) p c row block sized) ⌝ }
 {
     if !sized {
         return Answer::Refused(Refusal::WrongSize);
@@ -118,9 +120,7 @@ pub fn work(
     out: &mut [u8],
     squarings: &mut [u8],
 ) -> Answer
-    ensures answers { λ r. ⌜ answerOf r ≡ workAnswer (formulaOf f) p c row block (now (out .entry)) (now (squarings .entry)) ⌝ }
-    ensures leaves { λ _. ⌜ now (out .exit) ≡ workBytes (formulaOf f) part p c row block (now (out .entry)) (now (squarings .entry)) ⌝ }
-    ensures counts { λ _. ⌜ now (squarings .exit) ≡ workSquarings (formulaOf f) part p c row block (now (out .entry)) (now (squarings .entry)) ⌝ }
+    ensures { λ r. ⌜ Does (workCall (formulaOf f) part p c row block (now (out .entry)) (now (squarings .entry))) (answerOf r) (now (out .exit) ∷ now (squarings .exit) ∷ []) ⌝ }
 {
     match test_part(f, p, c, row, block, both_sized(out, squarings)) {
         Answer::Finished(value) => {
@@ -135,8 +135,7 @@ pub fn work(
 
 // Quotes a part of a ticket: writes its squarings into 16 bytes.
 pub fn quote(f: Series, part: Part, p: u64, c: u64, row: u64, block: u64, out: &mut [u8]) -> Answer
-    ensures answers { λ r. ⌜ answerOf r ≡ quoteAnswer (formulaOf f) p c row block (now (out .entry)) ⌝ }
-    ensures leaves { λ _. ⌜ now (out .exit) ≡ quoteSquarings (formulaOf f) part p c row block (now (out .entry)) ⌝ }
+    ensures { λ r. ⌜ Does (quoteCall (formulaOf f) part p c row block (now (out .entry))) (answerOf r) (now (out .exit) ∷ []) ⌝ }
 {
     match test_part(f, p, c, row, block, sized(out)) {
         Answer::Finished(value) => {

@@ -5,7 +5,7 @@ use series::Series;
 use ticket::Part;
 ghost use mathlib.Core.Path.{_≡_};
 ghost use mathlib.Core.Bool.{true};
-ghost use mathlib.Core.List.{_++_};
+ghost use mathlib.Core.List.{[], _∷_, _++_};
 ghost use Prim.Native.Nat.{ℕ, _+_, _*_, _≤_};
 ghost use lib.ListN.{length, take, drop};
 ghost use Rattle.words.specs.Bytes.{bytesOf};
@@ -13,8 +13,9 @@ ghost use Rattle.series.specs.Series.{Formula};
 ghost use Rattle.series.specs.Names.{formulaOf};
 ghost use Rattle.run.specs.Run.{limitsOf, inRange};
 ghost use Rattle.run.specs.Answers.{answerOf};
+ghost use Rattle.run.specs.Call.{Does, answered};
 ghost use Rattle.sheet.specs.Sheet.{listMost, listed, ascending, allTickets, contentsOf, bodiesOf};
-ghost use Rattle.sheet.specs.Calls.{writeAnswer, writeBytes};
+ghost use Rattle.sheet.specs.Calls.{writeCall};
 
 // The most bytes that a list can have.
 pub fn list_most(f: Series) -> usize
@@ -55,7 +56,7 @@ pub fn list_tickets(f: Series, c: u64, list: &[u8], e: usize) -> bool
 
 // What the refusal table says of writing: its tests in the order of their numbers.
 pub fn test_write(f: Series, p: u64, c: u64, list: &[u8], out: &[u8]) -> Answer
-    ensures { λ r. ⌜ answerOf r ≡ writeAnswer (formulaOf f) p c (now (list .entry)) (now (out .entry)) ⌝ }
+    ensures { λ r. ⌜ answerOf r ≡ answered (writeCall (formulaOf f) p c (now (list .entry)) (now (out .entry))) ⌝ }
 {
     if list.len() % 2 == 1 {
         return Answer::Refused(Refusal::WrongSize);
@@ -126,8 +127,7 @@ pub fn put_bodies(f: Series, p: u64, c: u64, list: &[u8], e: usize, out: &mut [u
 
 // Writes a sheet. All tests are done before a byte is written.
 pub fn write(f: Series, p: u64, c: u64, list: &[u8], out: &mut [u8]) -> Answer
-    ensures answers { λ r. ⌜ answerOf r ≡ writeAnswer (formulaOf f) p c (now (list .entry)) (now (out .entry)) ⌝ }
-    ensures leaves { λ _. ⌜ now (out .exit) ≡ writeBytes (formulaOf f) p c (now (list .entry)) (now (out .entry)) ⌝ }
+    ensures { λ r. ⌜ Does (writeCall (formulaOf f) p c (now (list .entry)) (now (out .entry))) (answerOf r) (now (out .exit) ∷ []) ⌝ }
 {
     match test_write(f, p, c, list, out) {
         Answer::Finished(size) => {

@@ -1,11 +1,9 @@
 -- `closing::close` meets its contract: the digits are written after all tests.
 -- Assumes nothing.
-use mathlib.Core.Path.{sym, ap, _∙_}
 use native.Mathlib.Omega.{arith}
 use denote.Ref.{now}
 use Rattle.series.specs.Names.{formulaOf}
 use Rattle.run.specs.Run.{limitsOf}
-use Rattle.run.specs.Answers.{answerOf}
 use Rattle.ledger.specs.Ledger.{posIn, totalIn}
 use Rattle.closing.proofs.Closing.{settled-few, tested, was-closed, not-closed, digits-written}
 use borrow.Author.Needs.{needs}
@@ -46,10 +44,7 @@ returns : tie.Need-returns
 returns c =
     let told = c .before .before .before .before .before .before in
     let e = told .before .before .test-closing .ensures in
-    let w = was-closed _ _ _ _ _ e (told .d .given .1) in (
-      ap answerOf (sym (told .d .given .1)) ∙ e,
-      c .before .before .put-digits .ensures ∙ digits-written _ _ _ _ _ (w .0) (w .1) (c .before .before .before .lower-end .ensures),
-    )
+    digits-written _ _ _ _ _ e (told .d .given .1) _ _ (c .before .before .put-digits .ensures) (c .before .before .before .lower-end .ensures)
 
 same-length-2 : tie.Need-same-length-2
 same-length-2 c = search needs
@@ -57,7 +52,7 @@ same-length-2 c = search needs
 returns-2 : tie.Need-returns-2
 returns-2 c =
     let e = c .before .before .before .test-closing .ensures in
-    (ap answerOf (sym (c .before .r .given .1)) ∙ e, not-closed _ _ _ _ _ e (c .before .r .given .1))
+    not-closed _ _ _ _ _ e (c .before .r .given .1)
 
 pub close-spec : {M : Type 1} → statement M
 close-spec =

@@ -4,6 +4,7 @@ use mathlib.Core.Path.{_∙_}
 use native.Mathlib.Omega.{arith}
 use lib.ListN.{length-take}
 use borrow.Author.Needs.{needs}
+use Rattle.run.proofs.Calls.{leaves}
 use Rattle.closing_line.proofs.Lines.{within, finished-line, refused-line}
 use Rattle.closing_line.proofs.put_line.Statement.{statement}
 use Rattle.closing_line.proofs.put_line.Tie as tie
@@ -58,7 +59,7 @@ returns c =
     let told = c .before .before .before .before .before in
     let e = told .before .before .before .close .ensures in (
       c .put-finished .ensures .0,
-      c .put-finished .ensures .1 ∙ finished-line _ _ _ (e .0) _ _ _ (told .d .given .1) (c .before .before .get .ensures) (e .1),
+      c .put-finished .ensures .1 ∙ finished-line _ _ _ (e .0) _ _ _ (told .d .given .1) (c .before .before .get .ensures) (leaves _ (e .1) 0),
     )
 
 returns-2 : tie.Need-returns-2

@@ -4,8 +4,6 @@ use mathlib.Core.Path.{sym, _∙_}
 use borrow.Author.Needs.{needs}
 use borrow.Author.Tests.{not-true, not-false}
 use denote.Ref.{now}
-use Rattle.run.proofs.Answering.{refused, finished}
-use Rattle.ledger.specs.Calls.{ticketAnswer}
 use Rattle.ledger.proofs.Posting.{mark-inside, ledger-size, sum-size, out-of-range, no-ticket, out-of-order, other-run, marked, admitted}
 use Rattle.ledger.proofs.test_ticket.Statement.{statement}
 use Rattle.ledger.proofs.test_ticket.Tie as tie
@@ -14,60 +12,54 @@ ledger-size-requires : tie.Need-ledger-size-requires
 ledger-size-requires c κs = search needs
 
 returns : tie.Need-returns
-unfolding ticketAnswer
-returns c = refused _ _ _ (ledger-size _ _ _ _ _ _ _ (λ e. c .if1 .taken (e ∙ sym (c .before .ledger-size .ensures))))
+returns c = ledger-size _ _ _ _ _ _ _ (λ e. c .if1 .taken (e ∙ sym (c .before .ledger-size .ensures)))
 
 returns-2 : tie.Need-returns-2
-unfolding ticketAnswer
-returns-2 c = refused _ _ _ (sum-size _ _ _ _ _ _ _ (c .before .if1 .left ∙ c .before .before .ledger-size .ensures) (c .if2 .taken))
+returns-2 c = sum-size _ _ _ _ _ _ _ (c .before .if1 .left ∙ c .before .before .ledger-size .ensures) (c .if2 .taken)
 
 in-range-requires : tie.Need-in-range-requires
 in-range-requires c κs = search needs
 
 returns-3 : tie.Need-returns-3
-unfolding ticketAnswer
 returns-3 c =
     let size = c .before .before in
-    refused _ _ _ (out-of-range _ _ _ _ _ _ _ (size .before .if1 .left ∙ size .before .before .ledger-size .ensures) (size .if2 .left)
-    (sym (c .before .in-range .ensures) ∙ not-true _ (c .if3 .taken)))
+    out-of-range _ _ _ _ _ _ _ (size .before .if1 .left ∙ size .before .before .ledger-size .ensures) (size .if2 .left)
+    (sym (c .before .in-range .ensures) ∙ not-true _ (c .if3 .taken))
 
 is-ticket-requires : tie.Need-is-ticket-requires
 is-ticket-requires c κs = search needs
 
 returns-4 : tie.Need-returns-4
-unfolding ticketAnswer
 returns-4 c =
     let range = c .before .before in
     let size = range .before .before in
-    refused _ _ _ (no-ticket _ _ _ _ _ _ _ (size .before .if1 .left ∙ size .before .before .ledger-size .ensures) (size .if2 .left)
-    (sym (range .before .in-range .ensures) ∙ not-false _ (range .if3 .left)) (sym (c .before .is-ticket .ensures) ∙ not-true _ (c .if4 .taken)))
+    no-ticket _ _ _ _ _ _ _ (size .before .if1 .left ∙ size .before .before .ledger-size .ensures) (size .if2 .left)
+    (sym (range .before .in-range .ensures) ∙ not-false _ (range .if3 .left)) (sym (c .before .is-ticket .ensures) ∙ not-true _ (c .if4 .taken))
 
 in-order-requires : tie.Need-in-order-requires
 in-order-requires c κs = search needs
 
 returns-5 : tie.Need-returns-5
-unfolding ticketAnswer
 returns-5 c =
     let ticket = c .before .before in
     let range = ticket .before .before in
     let size = range .before .before in
-    refused _ _ _ (out-of-order _ _ _ _ _ _ _ (size .before .if1 .left ∙ size .before .before .ledger-size .ensures) (size .if2 .left)
+    out-of-order _ _ _ _ _ _ _ (size .before .if1 .left ∙ size .before .before .ledger-size .ensures) (size .if2 .left)
     (sym (range .before .in-range .ensures) ∙ not-false _ (range .if3 .left)) (sym (ticket .before .is-ticket .ensures) ∙ not-false _ (ticket .if4 .left))
-    (sym (c .before .in-order .ensures) ∙ not-true _ (c .if5 .taken)))
+    (sym (c .before .in-order .ensures) ∙ not-true _ (c .if5 .taken))
 
 same-run-requires : tie.Need-same-run-requires
 same-run-requires c κs = search needs
 
 returns-6 : tie.Need-returns-6
-unfolding ticketAnswer
 returns-6 c =
     let order = c .before .before in
     let ticket = order .before .before in
     let range = ticket .before .before in
     let size = range .before .before in
-    refused _ _ _ (other-run _ _ _ _ _ _ _ (size .before .if1 .left ∙ size .before .before .ledger-size .ensures) (size .if2 .left)
+    other-run _ _ _ _ _ _ _ (size .before .if1 .left ∙ size .before .before .ledger-size .ensures) (size .if2 .left)
     (sym (range .before .in-range .ensures) ∙ not-false _ (range .if3 .left)) (sym (ticket .before .is-ticket .ensures) ∙ not-false _ (ticket .if4 .left))
-    (sym (order .before .in-order .ensures) ∙ not-false _ (order .if5 .left)) (sym (c .before .same-run .ensures) ∙ not-true _ (c .if6 .taken)))
+    (sym (order .before .in-order .ensures) ∙ not-false _ (order .if5 .left)) (sym (c .before .same-run .ensures) ∙ not-true _ (c .if6 .taken))
 
 bit-set-requires : tie.Need-bit-set-requires
 bit-set-requires c κs =
@@ -78,30 +70,28 @@ bit-set-requires c κs =
     (sym (range .before .in-range .ensures) ∙ not-false _ (range .if3 .left)) (sym (ticket .before .is-ticket .ensures) ∙ not-false _ (ticket .if4 .left))
 
 returns-7 : tie.Need-returns-7
-unfolding ticketAnswer
 returns-7 c =
     let run = c .before .before in
     let order = run .before .before in
     let ticket = order .before .before in
     let range = ticket .before .before in
     let size = range .before .before in
-    refused _ _ _ (marked _ _ _ _ _ _ _ (size .before .if1 .left ∙ size .before .before .ledger-size .ensures) (size .if2 .left)
+    marked _ _ _ _ _ _ _ (size .before .if1 .left ∙ size .before .before .ledger-size .ensures) (size .if2 .left)
     (sym (range .before .in-range .ensures) ∙ not-false _ (range .if3 .left)) (sym (ticket .before .is-ticket .ensures) ∙ not-false _ (ticket .if4 .left))
     (sym (order .before .in-order .ensures) ∙ not-false _ (order .if5 .left)) (sym (run .before .same-run .ensures) ∙ not-false _ (run .if6 .left))
-    (sym (c .before .bit-set .ensures) ∙ c .if7 .taken))
+    (sym (c .before .bit-set .ensures) ∙ c .if7 .taken)
 
 returns-8 : tie.Need-returns-8
-unfolding ticketAnswer
 returns-8 c =
     let run = c .before .before in
     let order = run .before .before in
     let ticket = order .before .before in
     let range = ticket .before .before in
     let size = range .before .before in
-    finished _ _ (admitted _ _ _ _ _ _ _ (size .before .if1 .left ∙ size .before .before .ledger-size .ensures) (size .if2 .left)
+    admitted _ _ _ _ _ _ _ (size .before .if1 .left ∙ size .before .before .ledger-size .ensures) (size .if2 .left)
     (sym (range .before .in-range .ensures) ∙ not-false _ (range .if3 .left)) (sym (ticket .before .is-ticket .ensures) ∙ not-false _ (ticket .if4 .left))
     (sym (order .before .in-order .ensures) ∙ not-false _ (order .if5 .left)) (sym (run .before .same-run .ensures) ∙ not-false _ (run .if6 .left))
-    (sym (c .before .bit-set .ensures) ∙ c .if7 .left))
+    (sym (c .before .bit-set .ensures) ∙ c .if7 .left)
 
 pub test-ticket-spec : {M : Type 1} → statement M
 test-ticket-spec =

@@ -11,7 +11,7 @@ use Rattle.series.specs.Names.{formulaOf}
 use Rattle.series.proofs.FewRows.{few-rows, near-positions}
 use Rattle.run.specs.Run.{limitsOf}
 use Rattle.ledger.specs.Ledger.{blocksIn}
-use Rattle.sheet.specs.Calls.{sheetBytes}
+use Rattle.sheet.specs.Calls.{sheetPostCall}
 use Rattle.look.specs.Look.{unmarkedIn}
 use Rattle.look.proofs.Posted.{is-taken, all-tickets}
 use Rattle.look.proofs.remaining.Statement.{statement}
@@ -22,6 +22,7 @@ use Rattle.look.proofs.marks.Reads as marks-reads
 use Rattle.series.proofs.limits.row_count.Reads as row-count-reads
 use Rattle.sheet.proofs.contents.count.Reads as count-reads
 use Rattle.words.proofs.get.Reads as get-reads
+use Rattle.run.specs.Call.{bytesLeft}
 
 -- what is known after the counting: the tickets by their kinds, and that there are few
 record Counted (r C e m rest : ℕ) : Type 0 where
@@ -34,7 +35,7 @@ counted : (c : lts.After-count (get-reads.Asked, get-reads.Learnt, row-count-rea
     let args = rows .before .before .before .before .args in
     let lim = limitsOf (formulaOf (args .f)) in
     Counted (rows .row-count .result) (rows .before .get .result) (c .count .result) (c .before .marks .result)
-    (unmarkedIn lim (sheetBytes lim (now (args .ledger)) (now (args .s))))
+    (unmarkedIn lim (bytesLeft (sheetPostCall lim (now (args .ledger)) (now (args .s))) 0))
 unfolding AllBytes blocksIn
 counted c =
     let marks = c .before in

@@ -1,9 +1,8 @@
 -- `engine::sheets::bbp_check_sheet_read` meets its contract, which is that of `sheet::reading::read`.
 -- Assumes nothing.
-use mathlib.Core.Path.{_∙_}
+use mathlib.Core.Path.{refl}
 use borrow.Author.Needs.{needs}
-use mir.Syntax.{w64}
-use mir.ValLaws.{toZ-ofZ}
+use Rattle.engine.proofs.Answered.{to-caller}
 use Rattle.engine.proofs.sheets.bbp_check_sheet_read.Statement.{statement}
 use Rattle.engine.proofs.sheets.bbp_check_sheet_read.Tie as tie
 
@@ -20,9 +19,7 @@ same-length-2 : tie.Need-same-length-2
 same-length-2 c = search needs
 
 returns : tie.Need-returns
-returns c =
-    let ensured = c .before .before .before .before .before .read .ensures in
-    (toZ-ofZ w64 _ (record { sfits = c .to-c .ok }) ∙ c .to-c .ensures ∙ ensured .0, ensured .1)
+returns c = (to-caller _ _ _ _ (c .to-c .ok) (c .to-c .ensures) (c .before .before .before .before .before .read .ensures), refl)
 
 pub bbp-check-sheet-read-spec : {M : Type 1} → statement M
 bbp-check-sheet-read-spec = tie.close (tie.spec read-requires to-c-requires same-length same-length-2 returns)

@@ -1,0 +1,23 @@
+-- What each call says that its slices were is what the caller lends.
+-- Assumes nothing.
+use mathlib.Core.Path.{_≡_, refl}
+use Rattle.series.specs.Series.{Formula}
+use Rattle.run.specs.Call.{eachWas}
+use Rattle.ticket.specs.Work.{workCall, quoteCall}
+use Rattle.ledger.specs.Calls.{openCall, postCall}
+use Rattle.sheet.specs.Calls.{writeCall, readCall, sheetPostCall}
+use Rattle.look.specs.Look.{lookCall}
+use Rattle.closing.specs.Closing.{closeBy}
+use Rattle.calls.specs.Request.{Request, Work, Quote, Open, Post, WriteSheet, ReadSheet, PostSheet, Look, Close, callOf, lentToWrite}
+
+pub were-lent : (F : Formula) (q : Request) → eachWas (callOf F q .slices) ≡ lentToWrite q
+unfolding workCall quoteCall openCall postCall writeCall readCall sheetPostCall lookCall closeBy
+were-lent F (Work part p C row block sum squarings) = refl
+were-lent F (Quote part p C row block squarings) = refl
+were-lent F (Open p C ledger) = refl
+were-lent F (Post ledger p C row block sum) = refl
+were-lent F (WriteSheet p C list sheet) = refl
+were-lent F (ReadSheet sheet list sums) = refl
+were-lent F (PostSheet ledger sheet) = refl
+were-lent F (Look ledger sheet total) = refl
+were-lent F (Close ledger digits) = refl

@@ -1,0 +1,1 @@
+// The calls as values, one for each request: definitions alone. No code.
