@@ -1,13 +1,13 @@
 -- The engine is none of the wrong engines. Closings part from it at p = 1, which settles thirty digits, or at p = 5, which settles
 -- twenty-nine, or on a full ledger whose total lies at the edge of a digit; tickets, halves and posts at p = 1 with one block, in rows 0 and 1; counts of
--- squarings at p = 1 as well, in rows 0, 2 and 3, and at the last position.
+-- squarings at p = 1 and p = 51, in rows 0, 2 and 3, and at the last position; looks at a fresh ledger of p = 1.
 -- Assumes nothing.
 use mathlib.Core.Path.{_≡_, refl, sym, ap, ap₂, subst, _∙_}
 use mathlib.Core.Bool.{Bool, true, false, not, cond}
 use mathlib.Core.List.{List, [], _∷_, _++_}
 use Prim.Native.Nat.{ℕ, _+_, _*_, _-_, _/_, _%_, _^_, _<_}
 use native.Mathlib.Omega.{arith}
-use borrow.Author.Tests.{eq-eqb, not-true}
+use borrow.Author.Tests.{eq-eqb, eqb-false, not-true}
 use lib.Dec.{eqb, lit<}
 use lib.IntN.{ℤ, pos, negsuc, pos-ne-negsuc}
 use lib.ListN.{getD, drop, replicate}
@@ -30,19 +30,24 @@ use Rattle.run.specs.Refusal.{_⇐_, refusal, answer}
 use Rattle.run.proofs.Answering as answering
 use Rattle.run.specs.Run.{inRange, isTicket, bound, ticketSum}
 use Rattle.ticket.specs.Parts.{cut, partFirst, partEnd, partSum, partSquarings}
-use Rattle.ticket.specs.Work.{isSized, bothSized, partRefusal, workRefusal, workBytes, workSquarings}
+use Rattle.ticket.specs.Work.{isSized, bothSized, workCall, quoteCall}
+use Rattle.ticket.specs.declared.Part.{Part}
 use Rattle.ticket.specs.declared.Part.the-variants.{Whole, Lower, Upper}
 use Rattle.ledger.specs.Ledger.{fresh, enter, mark, addTo, rowSumIn, totalOf, viewOf, posIn, blocksIn, totalIn, bitIn, markIn, inOrder}
-use Rattle.ledger.specs.Plain.{Plain, opened, plainView, encode, fullPlain}
+use Rattle.ledger.specs.Plain.{Plain, opened, plainView, admit, including, adding, encode, fullPlain}
 use Rattle.ledger.proofs.Image.{Good, pos-encode, sum-encode}
-use Rattle.ledger.specs.Calls.{ticketRefusal, ticketBytes}
-use Rattle.sheet.specs.Posts.{Post, ticket, postBytes, postsBytes, postRefusal, postEntries, plainPosts}
+use Rattle.ledger.specs.Calls.{ticketRefusal, postCall}
+use Rattle.sheet.specs.Sheet.{sheetPos, sheetBlocks, sheetCount, rowIn, blockIn, sumIn, entriesFrom, entries, every, ascending, wellFormed, contentsOf, bodiesOf, sheetOf}
+use Rattle.sheet.specs.Calls.{sheetRefusal, sheetPostCall}
+use Rattle.sheet.specs.Posts.{Post, ticket, postBytes, postsBytes, postRefusal, postEntries, plainPost, plainPosts}
+use Rattle.look.specs.Look.{unmarkedOf, unmarkedIn, lookRefusal, lookCall}
 use Rattle.sheet.proofs.Simulation.{good-opened, posts-good}
-use Rattle.closing.specs.Closing.{settledAt, digitsAt, closeRefusal, closingAnswer, closingBytes, closeAnswer, closeBytes}
+use Rattle.closing.specs.Closing.{settledAt, digitsAt, closeBy, closeCall}
 use Rattle.closing.proofs.Closing.{nine-alone}
 use Rattle.closing.proofs.Encoded.{good-full, answer-by}
 use Rattle.settlement.specs.Settlement.{Filled, ClosesWith, rowSums, allSums}
 use Rattle.settlement.specs.Figures.{firstDigits, inRow}
+use Rattle.settlement.specs.Looks.{looking, Outcome, outcome, stepOutcome, stepBytes, plainOutcome, plainStep, outcomes, plainOutcomes, twoTickets}
 use Rattle.settlement.specs.Squarings.{SquaringsAre, AllSquaringsAre}
 use Rattle.settlement.proofs.Runs.{runs}
 use Rattle.settlement.proofs.Filling.{kept-posts, kept-opened}
@@ -50,7 +55,8 @@ use Rattle.settlement.proofs.Figures.{spreads}
 use Rattle.settlement.proofs.Squarings.{squaring-figures-hold}
 use Rattle.settlement.proofs.Filler.{filled-exists}
 use Rattle.settlement.proofs.FirstDigits.{closes-with, first-digits}
-use Rattle.wrong_engines.specs.WrongEngines.{lim, AnswersAs, LeavesAs, ClosesAs, byRule, aboveZero, everyAdded, everySubtracted, sameDigits, WorksAs, oneSum, cutInBoth, cutInNeither, ownSigns, CountsAs, countedBy, rightOf, topBitToo, ofWholeE, inOneWord, PostsAs, doesNothing, leftBy, fillEntry, fillsFirst, alwaysNine, nineUnseen, alwaysEight, madeUp, oneLess, byTotal, withoutRow, withoutCarry, wrongSize, wordBound, towardZero, settledTowardZero, Met, ShutOut}
+use Rattle.wrong_engines.specs.WrongEngines.{lim, AnswersAs, LeavesAs, ClosesAs, byRule, aboveZero, everyAdded, everySubtracted, sameDigits, WorksAs, oneSum, cutInBoth, cutInNeither, ownSigns, Bill, byWorking, byQuoting, CountsAs, countedBy, rightOf, topBitToo, ofWholeE, inOneWord, ofWhole, RemainAs, TotalsAs, unmarkedNow, totalNow, LooksUntested, PostsAs, doesNothing, leftBy, fillEntry, fillsFirst, alwaysNine, nineUnseen, alwaysEight, madeUp, oneLess, byTotal, withoutRow, withoutCarry, wrongSize, wordBound, towardZero, settledTowardZero, Met, ShutOut}
+use Rattle.run.specs.Call.{answered, bytesLeft, refusedBy, allLeft}
 
 -- 6A8885A308D313198A2E03707344A, the digits from position 5 on that a run settles
 abbrev fifthDigits : List ℕ
@@ -84,11 +90,11 @@ ledger p = postsBytes lim (fresh lim p 1) (posts p)
 zeros : List ℕ
 zeros = replicate 32 0
 
-at-1 : (closeAnswer bellard (ledger 1) zeros ≡ pos 30) × (closeBytes bellard (ledger 1) zeros ≡ firstDigits ++ drop 30 zeros)
+at-1 : (answered (closeCall bellard (ledger 1) zeros) ≡ pos 30) × (bytesLeft (closeCall bellard (ledger 1) zeros) 0 ≡ firstDigits ++ drop 30 zeros)
 unfolding ledger zeros inRange
 at-1 = first-digits .by-bellard 1 refl (posts 1) (filled 1) zeros refl
 
-at-5 : (closeAnswer bellard (ledger 5) zeros ≡ pos 29) × (closeBytes bellard (ledger 5) zeros ≡ fifthDigits ++ drop 29 zeros)
+at-5 : (answered (closeCall bellard (ledger 5) zeros) ≡ pos 29) × (bytesLeft (closeCall bellard (ledger 5) zeros) 0 ≡ fifthDigits ++ drop 29 zeros)
 unfolding ledger zeros inRange
 at-5 = fifth-digits 1 refl (posts 5) (filled 5) zeros refl
 
@@ -128,12 +134,12 @@ always-eight same = go (wrongSize (ledger 1) zeros) (not (inOrder lim (ledger 1)
     go false false e = no-digits 7 30 e
 
 -- the ledger is not refused, and so the answer is whatever number is handed out in place of d
-module _ (p d : ℕ) (e : closeAnswer bellard (ledger p) zeros ≡ pos d) where
-  not-refused : (closeRefusal isCharged bellard (viewOf lim (ledger p)) (totalIn lim (ledger p)) zeros ≡ 0) × (settledAt isCharged bellard (posIn (ledger p)) (totalIn lim (ledger p)) ≡ d)
-  unfolding closeAnswer closingAnswer viewOf
+module _ (p d : ℕ) (e : answered (closeCall bellard (ledger p) zeros) ≡ pos d) where
+  not-refused : (refusedBy (closeBy isCharged bellard (viewOf lim (ledger p)) (totalIn lim (ledger p)) zeros) ≡ 0) × (settledAt isCharged bellard (posIn (ledger p)) (totalIn lim (ledger p)) ≡ d)
+  unfolding closeBy answered viewOf
   not-refused = answering.not-refused _ _ d e
 
-  handed-out : (n : ℕ) → answer (closeRefusal isCharged bellard (viewOf lim (ledger p)) (totalIn lim (ledger p)) zeros) n ≡ pos n
+  handed-out : (n : ℕ) → answer (refusedBy (closeBy isCharged bellard (viewOf lim (ledger p)) (totalIn lim (ledger p)) zeros)) n ≡ pos n
   unfolding answer
   handed-out n = rw (not-refused .0) refl
 
@@ -188,13 +194,13 @@ position-1 =
     ∙ kept-posts bellard 1 1 (opened 1 1) (posts 1) (kept-opened bellard 1 1 (omega arith) refl) (filled 1 .right) .run-p
 
 -- what a closing of the run by the total t would leave
-abbrev left : ℕ → List ℕ
-left t =
+abbrev closedBy : ℕ → List ℕ
+closedBy t =
     cond (eqb (cond (eqb (settledAt isCharged bellard 1 t) 0) 9 0) 0) (digitsAt isCharged bellard 1 t (settledAt isCharged bellard 1 t) ++ drop (settledAt isCharged bellard 1 t) zeros) zeros
 
 module _ (T : (ℕ → ℕ) → ℕ) (t : ℕ) (is : T (rowSumIn (ledger 1)) ≡ t) (same : LeavesAs (byTotal T)) where
-  first-left : firstDigits ++ drop 30 zeros ≡ left t
-  unfolding ledger zeros inRange byTotal closingBytes viewOf
+  first-left : firstDigits ++ drop 30 zeros ≡ closedBy t
+  unfolding ledger zeros inRange byTotal closeBy allLeft viewOf
   first-left =
       let r = nine-alone isCharged isCharged bellard (viewOf lim (ledger 1)) _ t zeros (not-refused 1 30 (at-1 .0) .0) in
       sym (at-1 .1) ∙ same 1 1 refl (posts 1) (filled 1) zeros refl ∙ rw (is, r, position-1) refl
@@ -220,7 +226,7 @@ no-carry same =
 
 -- whichever row is left out, one of the first three digits would be another
 abbrev agrees : ℕ → ℕ → Bool
-agrees row i = eqb (getD (firstDigits ++ drop 30 zeros) i 0) (getD (left (withoutRow row (rowSums bellard 1 1))) i 0)
+agrees row i = eqb (getD (firstDigits ++ drop 30 zeros) i 0) (getD (closedBy (withoutRow row (rowSums bellard 1 1))) i 0)
 
 parts : allBelow 7 (λ row. not (allBelow 3 (agrees row))) ≡ true
 unfolding zeros allBelow withoutRow totalOf rowSums ticketSum rangeSum bound size termCount rowSum sum onSide isAdded residue settledAt digitsAt settled settledUpTo low high sameℤ charges sideSum overRows isCharged lowDigits hexText hexDigit
@@ -246,18 +252,17 @@ module _ (R : Rule) (t : ℕ) (fits : t < modulus) (same : ClosesAs (byRule R)) 
       either true = fits
       either false = pow-pos 128
 
-  by-rule : closingAnswer isCharged bellard (plainView full) t zeros ≡ closingAnswer R bellard (plainView full) t zeros
-  unfolding closeAnswer
+  by-rule : answered (closeBy isCharged bellard (plainView full) t zeros) ≡ answered (closeBy R bellard (plainView full) t zeros)
   by-rule =
       let good = good-full Bellard (inRow 0 t) row-fits in
-      let total = spreads .one-row 0 t (omega arith) fits in
-      sym (answer-by bellard full good zeros isCharged ∙ ap (λ (n : ℕ). closingAnswer isCharged bellard (plainView full) n zeros) total)
-      ∙ same (encode lim full) zeros ∙ answer-by bellard full good zeros R ∙ ap (λ (n : ℕ). closingAnswer R bellard (plainView full) n zeros) total
+      let total = spreads .one-row bellard 0 t (lit< tt) fits in
+      sym (answer-by bellard full good zeros isCharged ∙ ap (λ (n : ℕ). answered (closeBy isCharged bellard (plainView full) n zeros)) total)
+      ∙ same (encode lim full) zeros ∙ answer-by bellard full good zeros R ∙ ap (λ (n : ℕ). answered (closeBy R bellard (plainView full) n zeros)) total
 
 -- Total 48 would settle thirty digits where a term with E of 0 is not charged. Total 49 would be refused where every term is, or every
 -- subtracted one, and total 2 ^ 128 - 46 where every added one is.
 wrong-rules : (ClosesAs (byRule aboveZero) → ⊥) × (ClosesAs (byRule everyTerm) → ⊥) × (ClosesAs (byRule everySubtracted) → ⊥) × (ClosesAs (byRule everyAdded) → ⊥)
-unfolding zeros plainView closingAnswer closeRefusal refusal answer settledAt settled settledUpTo low high sameℤ allBelow isTicket termCount charges sideSum overRows rowSum sum onSide isAdded isCharged aboveZero everyTerm everySubtracted everyAdded
+unfolding zeros plainView closeBy answered refusedBy refusal answer settledAt settled settledUpTo low high sameℤ allBelow isTicket termCount charges sideSum overRows rowSum sum onSide isAdded isCharged aboveZero everyTerm everySubtracted everyAdded
 wrong-rules = (
   λ same. no-digits 8 30 (by-rule aboveZero 48 (lit< tt) same),
   λ same. no-digits 8 30 (sym (by-rule everyTerm 49 (lit< tt) same)),
@@ -268,7 +273,7 @@ wrong-rules = (
 -- ---- tickets: row 0 and row 1 at p = 1 have sums with other top bytes
 
 one-sum : (w : List ℕ) → WorksAs Whole (oneSum w) → ⊥
-unfolding workBytes workRefusal partRefusal bothSized isSized refusal inRange isTicket partSum partFirst partEnd rangeSum bound size termCount rowSum sum onSide isAdded residue bytesOf
+unfolding workCall allLeft refusedBy bothSized isSized refusal inRange isTicket partSum partFirst partEnd rangeSum bound size termCount rowSum sum onSide isAdded residue bytesOf
 one-sum w same =
     let a = same 1 1 0 0 (replicate 16 0) (replicate 16 0) refl refl refl refl in
     let b = same 1 1 1 0 (replicate 16 0) (replicate 16 0) refl refl refl refl in
@@ -278,65 +283,138 @@ one-sum w same =
 -- ---- halves: those of row 0 at p = 1, C = 1, whose fourteen terms are cut at term 7; the byte that differs is named
 
 cut-in-both : WorksAs Lower cutInBoth → ⊥
-unfolding cutInBoth workBytes workRefusal partRefusal bothSized isSized refusal inRange isTicket partSum partFirst partEnd cut rangeSum bound size termCount rowSum sum onSide isAdded residue bytesOf
+unfolding cutInBoth workCall allLeft refusedBy bothSized isSized refusal inRange isTicket partSum partFirst partEnd cut rangeSum bound size termCount rowSum sum onSide isAdded residue bytesOf
 cut-in-both same =
     let z : _≡_ {A = ℕ} 231 249 = ap (λ (l : List ℕ). getD l 6 0) (same 1 1 0 0 (replicate 16 0) (replicate 16 0) refl refl refl refl) in
     omega (arith, z)
 
 cut-in-neither : WorksAs Upper cutInNeither → ⊥
-unfolding cutInNeither workBytes workRefusal partRefusal bothSized isSized refusal inRange isTicket partSum partFirst partEnd cut rangeSum bound size termCount rowSum sum onSide isAdded residue bytesOf
+unfolding cutInNeither workCall allLeft refusedBy bothSized isSized refusal inRange isTicket partSum partFirst partEnd cut rangeSum bound size termCount rowSum sum onSide isAdded residue bytesOf
 cut-in-neither same =
     let z : _≡_ {A = ℕ} 0 255 = ap (λ (l : List ℕ). getD l 15 0) (same 1 1 0 0 (replicate 16 0) (replicate 16 0) refl refl refl refl) in
     omega (arith, z)
 
-one-half-twice : WorksAs Upper (workBytes bellard Lower) → ⊥
-unfolding workBytes workRefusal partRefusal bothSized isSized refusal inRange isTicket partSum partFirst partEnd cut rangeSum bound size termCount rowSum sum onSide isAdded residue bytesOf
+one-half-twice : WorksAs Upper (λ p C row block out count. bytesLeft (workCall bellard Lower p C row block out count) 0) → ⊥
+unfolding workCall allLeft refusedBy bothSized isSized refusal inRange isTicket partSum partFirst partEnd cut rangeSum bound size termCount rowSum sum onSide isAdded residue bytesOf
 one-half-twice same =
     let z : _≡_ {A = ℕ} 0 128 = ap (λ (l : List ℕ). getD l 15 0) (same 1 1 0 0 (replicate 16 0) (replicate 16 0) refl refl refl refl) in
     omega (arith, z)
 
 own-signs : WorksAs Upper ownSigns → ⊥
-unfolding ownSigns workBytes workRefusal partRefusal bothSized isSized refusal inRange isTicket partSum partFirst partEnd cut rangeSum bound size termCount rowSum sum onSide isAdded residue bytesOf
+unfolding ownSigns workCall allLeft refusedBy bothSized isSized refusal inRange isTicket partSum partFirst partEnd cut rangeSum bound size termCount rowSum sum onSide isAdded residue bytesOf
 own-signs same =
     let z : _≡_ {A = ℕ} 0 255 = ap (λ (l : List ℕ). getD l 15 0) (same 1 1 0 0 (replicate 16 0) (replicate 16 0) refl refl refl refl) in
     omega (arith, z)
 
 -- ---- squarings
 
--- working that is not refused leaves their bytes
-left-squarings : CountsAs (partSquarings bellard Whole)
-unfolding workSquarings workRefusal partRefusal bothSized isSized refusal
-left-squarings p C row block out count l m r t = rw (l, m, r, t) refl
+-- a call that is not refused leaves their bytes
+left-squarings : (bill : Bill) (part : Part) → CountsAs bill part (partSquarings bellard)
+unfolding workCall quoteCall allLeft refusedBy bothSized isSized refusal
+left-squarings byWorking part p C row block out count l m r t = rw (l, m, r, t) refl
+left-squarings byQuoting part p C row block out count l m r t = rw (m, r, t) refl
 
-counted-rightly : (p C row block : ℕ) → partSquarings bellard Whole p C row block ≡ countedBy 128 rightOf p C row block
+counted-rightly : (part : Part) (p C row block : ℕ) → partSquarings bellard part p C row block ≡ countedBy 128 rightOf part p C row block
 unfolding partSquarings rangeSquarings squarings countedBy
-counted-rightly p C row block = refl
+counted-rightly part p C row block = refl
 
--- at p = 1, C = 1 row 2 has one term with E above 127, which is 130, row 3 one, which is 128, and row 0 has one with E = 127
-module _ (W : ℕ → ℕ → ℕ → ℕ → ℕ) (same : CountsAs W) where
+module _ (bill : Bill) (part : Part) (W : Part → ℕ → ℕ → ℕ → ℕ → ℕ) (same : CountsAs bill part W) where
   both : (p row : ℕ) → inRange lim p 1 ≡ true → isTicket lim 1 row 0 ≡ true
-      → bytesOf 16 (partSquarings bellard Whole p 1 row 0) ≡ bytesOf 16 (W p 1 row 0)
+      → bytesOf 16 (partSquarings bellard part p 1 row 0) ≡ bytesOf 16 (W part p 1 row 0)
   both p row r t =
-      sym (left-squarings p 1 row 0 (replicate 16 0) (replicate 16 0) refl refl r t) ∙ same p 1 row 0 (replicate 16 0) (replicate 16 0) refl refl r t
+      sym (left-squarings bill part p 1 row 0 (replicate 16 0) (replicate 16 0) refl refl r t) ∙ same p 1 row 0 (replicate 16 0) (replicate 16 0) refl refl r t
 
-wrong-counts : (CountsAs (countedBy 128 topBitToo) → ⊥) × (CountsAs (countedBy 127 rightOf) → ⊥) × (CountsAs (countedBy 129 rightOf) → ⊥)
-    × (CountsAs (countedBy 128 ofWholeE) → ⊥)
-unfolding partSquarings rangeSquarings squarings countedBy bitLength bitsIn sum partFirst partEnd bound termCount inRange isTicket bytesOf
+  -- it parts from the right one where the lowest bytes differ
+  parts-at : (p row : ℕ) → inRange lim p 1 ≡ true → isTicket lim 1 row 0 ≡ true
+      → eqb (getD (bytesOf 16 (partSquarings bellard part p 1 row 0)) 0 0) (getD (bytesOf 16 (W part p 1 row 0)) 0 0) ≡ false → ⊥
+  parts-at p row r t e = eqb-false _ _ e (ap (λ (l : List ℕ). getD l 0 0) (both p row r t))
+
+-- At p = 1, C = 1 row 2 has one term with E above 127, which is 130, row 3 one, which is 128, and row 0 has one with E = 127. All stand in the
+-- lower half; at p = 51 terms with the same E stand in the upper.
+abbrev place : Part → ℕ
+place Whole = 1
+place Lower = 1
+place Upper = 51
+
+near : (part : Part) → inRange lim (place part) 1 ≡ true
+unfolding inRange
+near Whole = refl
+near Lower = refl
+near Upper = refl
+
+-- the lowest bytes differ there, in this row
+abbrev Differs : (Part → ℕ → ℕ → ℕ → ℕ → ℕ) → ℕ → Part → Type 0
+Differs W row part =
+    eqb (getD (bytesOf 16 (partSquarings bellard part (place part) 1 row 0)) 0 0) (getD (bytesOf 16 (W part (place part) 1 row 0)) 0 0) ≡ false
+
+abbrev NoneCounts : (Part → ℕ → ℕ → ℕ → ℕ → ℕ) → Type 0
+NoneCounts W = (bill : Bill) (part : Part) → CountsAs bill part W → ⊥
+
+none-counts : (W : Part → ℕ → ℕ → ℕ → ℕ → ℕ) (row : ℕ) → isTicket lim 1 row 0 ≡ true → Differs W row Whole → Differs W row Lower
+    → Differs W row Upper → NoneCounts W
+none-counts W row t whole lower upper bill part same = parts-at bill part W same (place part) row (near part) t (each part)
+  where
+    each : (part : Part) → Differs W row part
+    each Whole = whole
+    each Lower = lower
+    each Upper = upper
+
+wrong-counts : NoneCounts (countedBy 128 topBitToo) × NoneCounts (countedBy 127 rightOf) × NoneCounts (countedBy 129 rightOf) × NoneCounts (countedBy 128 ofWholeE)
+unfolding partSquarings rangeSquarings squarings countedBy bitLength bitsIn sum partFirst partEnd cut bound termCount isTicket bytesOf
 wrong-counts = (
-  λ same. let z : _≡_ {A = ℕ} 6 7 = ap (λ (l : List ℕ). getD l 0 0) (both _ same 1 2 refl refl) in omega (arith, z),
-  λ same. let z : _≡_ {A = ℕ} 0 5 = ap (λ (l : List ℕ). getD l 0 0) (both _ same 1 0 refl refl) in omega (arith, z),
-  λ same. let z : _≡_ {A = ℕ} 6 0 = ap (λ (l : List ℕ). getD l 0 0) (both _ same 1 3 refl refl) in omega (arith, z),
-  λ same. let z : _≡_ {A = ℕ} 6 7 = ap (λ (l : List ℕ). getD l 0 0) (both _ same 1 2 refl refl) in omega (arith, z),
+  none-counts (countedBy 128 topBitToo) 2 refl refl refl refl,
+  none-counts (countedBy 127 rightOf) 0 refl refl refl refl,
+  none-counts (countedBy 129 rightOf) 3 refl refl refl refl,
+  none-counts (countedBy 128 ofWholeE) 2 refl refl refl refl,
+)
+
+-- each half of row 2 at p = 51 takes some squarings
+whole-for-a-half : ((bill : Bill) → CountsAs bill Lower ofWhole → ⊥) × ((bill : Bill) → CountsAs bill Upper ofWhole → ⊥)
+unfolding partSquarings rangeSquarings squarings bitLength bitsIn sum partFirst partEnd cut bound termCount inRange isTicket bytesOf
+whole-for-a-half = (
+  λ bill same. parts-at bill Lower ofWhole same 51 2 refl refl refl,
+  λ bill same. parts-at bill Upper ofWhole same 51 2 refl refl refl,
 )
 
 -- at p = 2 ^ 60 the ninth byte of row 0's count is 1
-in-one-word : CountsAs inOneWord → ⊥
+in-one-word : (bill : Bill) → CountsAs bill Whole inOneWord → ⊥
 unfolding inOneWord AllSquaringsAre SquaringsAre inRange isTicket bytesOf
-in-one-word same =
+in-one-word bill same =
     let count : partSquarings bellard Whole (2 ^ 60) 1 0 0 ≡ 27670116110564327790 = squaring-figures-hold .0 .1 .1 .1 .1 .1 .1 .0 in
-    let e = subst (λ (n : ℕ). bytesOf 16 n ≡ bytesOf 16 (n % 2 ^ 64)) count (both _ same (2 ^ 60) 0 refl refl) in
+    let e = subst (λ (n : ℕ). bytesOf 16 n ≡ bytesOf 16 (n % 2 ^ 64)) count (both bill Whole inOneWord same (2 ^ 60) 0 refl refl) in
     let z : _≡_ {A = ℕ} 1 0 = ap (λ (l : List ℕ). getD l 8 0) e in
     omega (arith, z)
+
+-- ---- looks: at the sheet of rows 0 and 6 on a fresh ledger of p = 1, C = 1; five tickets would remain, and the total would be 2
+
+looked : Outcome
+looked = stepOutcome lim (fresh lim 1 1) (looking twoTickets (replicate 16 0))
+
+looked-is : looked ≡ outcome (pos 5) (bytesOf 16 2)
+unfolding looked outcomes stepBytes plainOutcomes plainOutcome plainStep plainPost plainView postRefusal postEntries opened admit including adding lookRefusal sheetRefusal refusal answer inRange isTicket unmarkedOf totalOf sum allBelow wellFormed ascending every entries entriesFrom sheetCount sheetPos sheetBlocks rowIn blockIn sumIn field valueOf sheetOf contentsOf bodiesOf bytesOf
+looked-is = ap (λ (l : List Outcome). getD l 0 (outcome (pos 0) [])) (runs .bellard-runs .looks .as-plain 1 1 refl (looking twoTickets (replicate 16 0) ∷ []))
+
+five-remain : answered (lookCall lim (fresh lim 1 1) twoTickets (replicate 16 0)) ≡ pos 5
+unfolding looked stepOutcome
+five-remain = ap (λ (o : Outcome). o .reply) looked-is
+
+unmarked-now : RemainAs unmarkedNow → ⊥
+unfolding unmarkedOf viewOf markIn bitIn isTicket blocksIn field valueOf fresh bytesOf sum
+unmarked-now same =
+    let z : _≡_ {A = ℕ} 5 7 = same (fresh lim 1 1) twoTickets (replicate 16 0) 5 five-remain in
+    omega (arith, z)
+
+total-now : TotalsAs totalNow → ⊥
+unfolding looked stepOutcome totalOf rowSumIn field valueOf fresh bytesOf sum
+total-now same =
+    let e = sym (ap (λ (o : Outcome). o .total) looked-is) ∙ same (fresh lim 1 1) twoTickets (replicate 16 0) 5 five-remain in
+    let z : _≡_ {A = ℕ} 2 0 = ap (λ (l : List ℕ). getD l 0 0) e in
+    omega (arith, z)
+
+-- no total of 15 bytes is taken
+untested : (A : List ℕ → List ℕ → List ℕ → ℕ) → LooksUntested A → ⊥
+untested A same =
+    no-digits 0 _ (sym (runs .bellard-runs .looks .as-posted .other-size [] [] [] (λ e. omega (arith, e)) .0) ∙ same [] [] [])
 
 -- ---- posts: the ticket of row 0 at p = 1, C = 1, with its right sum
 
@@ -345,14 +423,14 @@ one-post = ticket 1 1 0 0 (bytesOf 16 (ticketSum bellard 1 1 0 0)) ∷ []
 
 -- its mark is set
 does-nothing : PostsAs doesNothing → ⊥
-unfolding one-post leftBy postsBytes postBytes ticketBytes ticketRefusal refusal viewOf inOrder inRange isTicket allBelow posIn blocksIn markIn bitIn field valueOf fresh enter mark addTo rowSumIn bytesOf ticketSum rangeSum bound size termCount rowSum sum onSide isAdded residue
+unfolding one-post leftBy postsBytes postBytes postCall refusedBy allLeft ticketRefusal refusal viewOf inOrder inRange isTicket allBelow posIn blocksIn markIn bitIn field valueOf fresh enter mark addTo rowSumIn bytesOf ticketSum rangeSum bound size termCount rowSum sum onSide isAdded residue
 does-nothing same =
     let z : _≡_ {A = ℕ} 1 0 = ap (λ (l : List ℕ). getD l 128 0) (same 1 1 refl one-post) in
     omega (arith, z)
 
 -- the top byte of row 0's sum is that of its ticket's, 80 in hexadecimal, and not the 24 of the whole run's
 fills-first : PostsAs fillsFirst → ⊥
-unfolding one-post leftBy fillsFirst fillEntry postsBytes postBytes ticketBytes postRefusal postEntries ticketRefusal refusal viewOf inOrder inRange isTicket allBelow posIn blocksIn markIn bitIn field valueOf fresh enter mark addTo rowSumIn bytesOf allSums ticketSum rangeSum bound size termCount rowSum sum onSide isAdded residue
+unfolding one-post leftBy fillsFirst fillEntry postsBytes postBytes postCall refusedBy allLeft ticketRefusal postRefusal postEntries refusal viewOf inOrder inRange isTicket allBelow posIn blocksIn markIn bitIn field valueOf fresh enter mark addTo rowSumIn bytesOf allSums ticketSum rangeSum bound size termCount rowSum sum onSide isAdded residue
 fills-first same =
     let z : _≡_ {A = ℕ} 128 36 = ap (λ (l : List ℕ). getD l 31 0) (same 1 1 refl one-post) in
     omega (arith, z)
@@ -384,6 +462,11 @@ shut-out = record {
   not-counted-at-128 = wrong-counts .2;
   of-whole-E = wrong-counts .3;
   in-one-word = in-one-word;
+  whole-for-lower = whole-for-a-half .0;
+  whole-for-upper = whole-for-a-half .1;
+  unmarked-now = unmarked-now;
+  total-now = total-now;
+  untested = untested;
   does-nothing = does-nothing;
   fills-first = fills-first;
   product-in-a-word = (refl, λ e. omega (arith, e));
@@ -395,14 +478,23 @@ unfolding postsBytes leftBy
 posts-left s [] = refl
 posts-left s (a ∷ posts) = posts-left (postBytes lim s a) posts
 
+look-is : (ledger s total : List ℕ) (n : ℕ) → answered (lookCall lim ledger s total) ≡ pos n
+    → (n ≡ unmarkedIn lim (bytesLeft (sheetPostCall lim ledger s) 0)) × (bytesLeft (lookCall lim ledger s total) 0 ≡ bytesOf 16 (totalIn lim (bytesLeft (sheetPostCall lim ledger s) 0)))
+unfolding lookCall answered allLeft
+look-is ledger s total n e =
+    let w = answering.not-refused _ _ n e in
+    (sym (w .1), sym (answering.changed _ _ total (w .0)))
+
 pub met : Met
-unfolding closeAnswer
 met = record {
   answers = λ p C range posts f out room. refl;
   leaves = λ p C range posts f out room. refl;
   closes = λ s digits. refl;
   works = λ part p C row block out count l m r t. refl;
-  counts = λ p C row block out count l m r t. left-squarings p C row block out count l m r t;
-  counts-by = λ p C row block out count l m r t. left-squarings p C row block out count l m r t ∙ ap (bytesOf 16) (counted-rightly p C row block);
+  counts = left-squarings;
+  counts-by = λ bill part p C row block out count l m r t.
+      left-squarings bill part p C row block out count l m r t ∙ ap (bytesOf 16) (counted-rightly part p C row block);
+  remain = λ ledger s total n e. look-is ledger s total n e .0;
+  totals = λ ledger s total n e. look-is ledger s total n e .1;
   posts = λ p C range posts. posts-left (fresh lim p C) posts;
 }

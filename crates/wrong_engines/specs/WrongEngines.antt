@@ -1,6 +1,6 @@
 -- The wrong engines that document 01 names under "Traps of this arithmetic" and "For those who test", where no edit of the code can be
--- them, wrong totals of the row sums, wrong halves of a ticket, wrong rules of charging, and wrong counts of squarings: each is written down by
--- what it answers or leaves, and `ShutOut` says that the engine is none of them. Nothing of the engine rests on these definitions.
+-- them, wrong totals of the row sums, wrong halves of a ticket, wrong rules of charging, wrong counts of squarings, and wrong looks: each is
+-- written down by what it answers or leaves, and `ShutOut` says that the engine is none of them. Nothing of the engine rests on these definitions.
 use mathlib.Core.Path.{_≡_}
 use mathlib.Core.Bool.{Bool, true, not, cond, _||_}
 use mathlib.Core.List.{List, [], _∷_, _++_, foldl}
@@ -19,14 +19,17 @@ use Rattle.interval.specs.Interval.{Rule, isCharged, everyTerm, unitAt}
 use Rattle.run.specs.Refusal.{_⇐_, refusal, answer}
 use Rattle.run.specs.Run.{Limits, limitsOf, inRange, isTicket, bound}
 use Rattle.ticket.specs.Parts.{cut, partFirst, partCount, partSquarings}
-use Rattle.ticket.specs.Work.{workBytes, workSquarings}
+use Rattle.run.specs.Call.{bytesLeft, refusedBy, answered}
+use Rattle.ticket.specs.Work.{workCall, quoteCall}
 use Rattle.ticket.specs.declared.Part.{Part}
 use Rattle.ticket.specs.declared.Part.the-variants.{Whole, Lower, Upper}
 use Rattle.ledger.specs.Ledger.{ledgerSize, viewOf, posIn, blocksIn, rowSumIn, totalOf, totalIn, bitIn, inOrder, fresh, enter}
 use Rattle.ledger.specs.Plain.{Entry}
 use Rattle.sheet.specs.Posts.{Post, postRefusal, postEntries, postBytes, postsBytes}
-use Rattle.closing.specs.Closing.{lowOf, highOf, settledAt, closeRefusal, closingAnswer, closingBytes, closeAnswer, closeBytes}
+use Rattle.look.specs.Look.{unmarkedIn, lookCall}
+use Rattle.closing.specs.Closing.{lowOf, highOf, settledAt, closeBy, closeCall}
 use Rattle.settlement.specs.Settlement.{Filled, allSums}
+use Rattle.sheet.specs.Calls.{sheetPostCall}
 
 abbrev pub lim : Limits
 lim = limitsOf bellard
@@ -37,13 +40,13 @@ lim = limitsOf bellard
 abbrev pub AnswersAs : (List ℕ → List ℕ → ℤ) → Type 0
 AnswersAs A =
     (p C : ℕ) → inRange lim p C ≡ true → (posts : List Post) → Filled bellard p C posts → (out : List ℕ) → length out ≡ 32
-    → closeAnswer bellard (postsBytes lim (fresh lim p C) posts) out ≡ A (postsBytes lim (fresh lim p C) posts) out
+    → answered (closeCall bellard (postsBytes lim (fresh lim p C) posts) out) ≡ A (postsBytes lim (fresh lim p C) posts) out
 
 -- it leaves the bytes that B leaves
 abbrev pub LeavesAs : (List ℕ → List ℕ → List ℕ) → Type 0
 LeavesAs B =
     (p C : ℕ) → inRange lim p C ≡ true → (posts : List Post) → Filled bellard p C posts → (out : List ℕ) → length out ≡ 32
-    → closeBytes bellard (postsBytes lim (fresh lim p C) posts) out ≡ B (postsBytes lim (fresh lim p C) posts) out
+    → bytesLeft (closeCall bellard (postsBytes lim (fresh lim p C) posts) out) 0 ≡ B (postsBytes lim (fresh lim p C) posts) out
 
 -- always 9
 abbrev pub alwaysNine : List ℕ → List ℕ → ℤ
@@ -64,11 +67,11 @@ alwaysEight s digits =
 
 -- a made-up d: one number for all ledgers that settle a digit
 unfoldable pub madeUp : ℕ → List ℕ → List ℕ → ℤ
-madeUp d s digits = answer (closeRefusal isCharged bellard (viewOf lim s) (totalIn lim s) digits) d
+madeUp d s digits = answer (refusedBy (closeBy isCharged bellard (viewOf lim s) (totalIn lim s) digits)) d
 
 -- a made-up d: one less than the greatest that the distance settles
 unfoldable pub oneLess : List ℕ → List ℕ → ℤ
-oneLess s digits = answer (closeRefusal isCharged bellard (viewOf lim s) (totalIn lim s) digits) (settledAt isCharged bellard (posIn s) (totalIn lim s) - 1)
+oneLess s digits = answer (refusedBy (closeBy isCharged bellard (viewOf lim s) (totalIn lim s) digits)) (settledAt isCharged bellard (posIn s) (totalIn lim s) - 1)
 
 -- one set of digits for all positions
 abbrev pub sameDigits : List ℕ → List ℕ → List ℕ → List ℕ
@@ -76,7 +79,7 @@ sameDigits w s digits = w ++ drop (length w) digits
 
 -- a closing by another total than that of the row sums: T makes it of the sums (document 02, slip 1)
 unfoldable pub byTotal : ((ℕ → ℕ) → ℕ) → List ℕ → List ℕ → List ℕ
-byTotal T s digits = closingBytes isCharged bellard (viewOf lim s) (T (rowSumIn s)) digits
+byTotal T s digits = bytesLeft (closeBy isCharged bellard (viewOf lim s) (T (rowSumIn s)) digits) 0
 
 -- a row is left out
 unfoldable pub withoutRow : ℕ → (ℕ → ℕ) → ℕ
@@ -90,11 +93,11 @@ withoutCarry sums = sum (λ r. sums r / 2 ^ 64) 0 7 % 2 ^ 64 * 2 ^ 64 + sum (λ 
 
 -- the engine's closing of every ledger, filled or not, answers as A does
 abbrev pub ClosesAs : (List ℕ → List ℕ → ℤ) → Type 0
-ClosesAs A = (s digits : List ℕ) → closeAnswer bellard s digits ≡ A s digits
+ClosesAs A = (s digits : List ℕ) → answered (closeCall bellard s digits) ≡ A s digits
 
 -- a closing by a rule
 abbrev pub byRule : Rule → List ℕ → List ℕ → ℤ
-byRule R s digits = closingAnswer R bellard (viewOf lim s) (totalIn lim s) digits
+byRule R s digits = answered (closeBy R bellard (viewOf lim s) (totalIn lim s) digits)
 
 -- a term with E of 0 is not charged: the bound would still hold
 unfoldable pub aboveZero : Rule
@@ -113,7 +116,7 @@ everySubtracted F p r k = not (isAdded F r k) || isCharged F p r k
 abbrev pub WorksAs : Part → (ℕ → ℕ → ℕ → ℕ → List ℕ → List ℕ → List ℕ) → Type 0
 WorksAs part W =
     (p C row block : ℕ) (out count : List ℕ) → length out ≡ 16 → length count ≡ 16 → inRange lim p C ≡ true → isTicket lim C row block ≡ true
-    → workBytes bellard part p C row block out count ≡ W p C row block out count
+    → bytesLeft (workCall bellard part p C row block out count) 0 ≡ W p C row block out count
 
 -- one sum for all tickets
 abbrev pub oneSum : List ℕ → ℕ → ℕ → ℕ → ℕ → List ℕ → List ℕ → List ℕ
@@ -141,18 +144,28 @@ ownSigns p C row block out count =
 
 -- ---- squarings (document 02, slip 7)
 
--- the squarings that the engine's working of every ticket leaves in the bytes lent for them are those that W gives
-abbrev pub CountsAs : (ℕ → ℕ → ℕ → ℕ → ℕ) → Type 0
-CountsAs W =
-    (p C row block : ℕ) (out count : List ℕ) → length out ≡ 16 → length count ≡ 16 → inRange lim p C ≡ true → isTicket lim C row block ≡ true
-    → workSquarings bellard Whole p C row block out count ≡ bytesOf 16 (W p C row block)
+-- Who says how many: the call that works a ticket or a half, or the one that quotes it.
+pub data Bill : Type 0 where
+  byWorking : Bill
+  byQuoting : Bill
 
--- a ticket's squarings where a term with E of `least` or more takes as many as `of E` says, and any other none
-unfoldable pub countedBy : ℕ → (ℕ → ℕ) → ℕ → ℕ → ℕ → ℕ → ℕ
-countedBy least of p C row block =
+-- the bytes that it leaves for them
+abbrev pub billed : Bill → Part → ℕ → ℕ → ℕ → ℕ → List ℕ → List ℕ → List ℕ
+billed byWorking part p C row block out count = bytesLeft (workCall bellard part p C row block out count) 1
+billed byQuoting part p C row block out count = bytesLeft (quoteCall bellard part p C row block count) 0
+
+-- the engine's bill for this part of every ticket is what W gives
+abbrev pub CountsAs : Bill → Part → (Part → ℕ → ℕ → ℕ → ℕ → ℕ) → Type 0
+CountsAs bill part W =
+    (p C row block : ℕ) (out count : List ℕ) → length out ≡ 16 → length count ≡ 16 → inRange lim p C ≡ true → isTicket lim C row block ≡ true
+    → billed bill part p C row block out count ≡ bytesOf 16 (W part p C row block)
+
+-- a part's squarings where a term with E of `least` or more takes as many as `of E` says, and any other none
+unfoldable pub countedBy : ℕ → (ℕ → ℕ) → Part → ℕ → ℕ → ℕ → ℕ → ℕ
+countedBy least of part p C row block =
     let r = rowAt bellard row in
-    sum (λ k. cond (leb (fall bellard k + least) (rise p r)) (of (rise p r - fall bellard k)) 0) (partFirst bellard Whole p C block)
-    (partCount bellard Whole p C block)
+    sum (λ k. cond (leb (fall bellard k + least) (rise p r)) (of (rise p r - fall bellard k)) 0) (partFirst bellard part p C block)
+    (partCount bellard part p C block)
 
 -- the right count is such a one
 abbrev pub rightOf : ℕ → ℕ
@@ -167,8 +180,35 @@ abbrev pub ofWholeE : ℕ → ℕ
 ofWholeE E = bitLength E - 1
 
 -- the count is kept in one word
-unfoldable pub inOneWord : ℕ → ℕ → ℕ → ℕ → ℕ
-inOneWord p C row block = partSquarings bellard Whole p C row block % 2 ^ 64
+unfoldable pub inOneWord : Part → ℕ → ℕ → ℕ → ℕ → ℕ
+inOneWord part p C row block = partSquarings bellard part p C row block % 2 ^ 64
+
+-- a half is billed as the whole ticket
+abbrev pub ofWhole : Part → ℕ → ℕ → ℕ → ℕ → ℕ
+ofWhole part = partSquarings bellard Whole
+
+-- ---- looks (document 02, slip 6), where they are taken
+
+-- the number of tickets that the engine's look at every sheet says would remain is what R gives
+abbrev pub RemainAs : (List ℕ → List ℕ → ℕ) → Type 0
+RemainAs R = (ledger s total : List ℕ) (n : ℕ) → answered (lookCall lim ledger s total) ≡ pos n → n ≡ R ledger s
+
+-- the total that it leaves is what T gives
+abbrev pub TotalsAs : (List ℕ → List ℕ → ℕ) → Type 0
+TotalsAs T =
+    (ledger s total : List ℕ) (n : ℕ) → answered (lookCall lim ledger s total) ≡ pos n
+    → bytesLeft (lookCall lim ledger s total) 0 ≡ bytesOf 16 (T ledger s)
+
+-- the sheet plays no part: what is unmarked now, and the total of now
+abbrev pub unmarkedNow : List ℕ → List ℕ → ℕ
+unmarkedNow ledger s = unmarkedIn lim ledger
+
+abbrev pub totalNow : List ℕ → List ℕ → ℕ
+totalNow ledger s = totalIn lim ledger
+
+-- nothing is refused, whatever number is answered
+abbrev pub LooksUntested : (List ℕ → List ℕ → List ℕ → ℕ) → Type 0
+LooksUntested A = (ledger s total : List ℕ) → answered (lookCall lim ledger s total) ≡ pos (A ledger s total)
 
 -- ---- posts, by what they leave of a ledger
 
@@ -212,12 +252,14 @@ settledTowardZero lo hi (suc d) =
 -- ---- what is asked of each can be met: the engine's own definitions do
 
 pub record Met : Type 0 where
-  pub answers : AnswersAs (closeAnswer bellard)
-  pub leaves : LeavesAs (closeBytes bellard)
+  pub answers : AnswersAs (λ s digits. answered (closeCall bellard s digits))
+  pub leaves : LeavesAs (λ s digits. bytesLeft (closeCall bellard s digits) 0)
   pub closes : ClosesAs (byRule isCharged)
-  pub works : (part : Part) → WorksAs part (workBytes bellard part)
-  pub counts : CountsAs (partSquarings bellard Whole)
-  pub counts-by : CountsAs (countedBy 128 rightOf)
+  pub works : (part : Part) → WorksAs part (λ p C row block out count. bytesLeft (workCall bellard part p C row block out count) 0)
+  pub counts : (bill : Bill) (part : Part) → CountsAs bill part (partSquarings bellard)
+  pub counts-by : (bill : Bill) (part : Part) → CountsAs bill part (countedBy 128 rightOf)
+  pub remain : RemainAs (λ ledger s. unmarkedIn lim (bytesLeft (sheetPostCall lim ledger s) 0))
+  pub totals : TotalsAs (λ ledger s. totalIn lim (bytesLeft (sheetPostCall lim ledger s) 0))
   pub posts : PostsAs (postBytes lim)
 
 -- ---- the engine is none of the wrong ones
@@ -238,13 +280,20 @@ pub record ShutOut : Type 0 where
   pub one-sum : (w : List ℕ) → WorksAs Whole (oneSum w) → ⊥
   pub cut-in-both : WorksAs Lower cutInBoth → ⊥
   pub cut-in-neither : WorksAs Upper cutInNeither → ⊥
-  pub one-half-twice : WorksAs Upper (workBytes bellard Lower) → ⊥
+  pub one-half-twice : WorksAs Upper (λ p C row block out count. bytesLeft (workCall bellard Lower p C row block out count) 0) → ⊥
   pub own-signs : WorksAs Upper ownSigns → ⊥
-  pub top-bit-too : CountsAs (countedBy 128 topBitToo) → ⊥
-  pub counted-at-127 : CountsAs (countedBy 127 rightOf) → ⊥
-  pub not-counted-at-128 : CountsAs (countedBy 129 rightOf) → ⊥
-  pub of-whole-E : CountsAs (countedBy 128 ofWholeE) → ⊥
-  pub in-one-word : CountsAs inOneWord → ⊥
+  -- whether a ticket or a half is worked or quoted
+  pub top-bit-too : (bill : Bill) (part : Part) → CountsAs bill part (countedBy 128 topBitToo) → ⊥
+  pub counted-at-127 : (bill : Bill) (part : Part) → CountsAs bill part (countedBy 127 rightOf) → ⊥
+  pub not-counted-at-128 : (bill : Bill) (part : Part) → CountsAs bill part (countedBy 129 rightOf) → ⊥
+  pub of-whole-E : (bill : Bill) (part : Part) → CountsAs bill part (countedBy 128 ofWholeE) → ⊥
+  -- no half takes more than a word holds
+  pub in-one-word : (bill : Bill) → CountsAs bill Whole inOneWord → ⊥
+  pub whole-for-lower : (bill : Bill) → CountsAs bill Lower ofWhole → ⊥
+  pub whole-for-upper : (bill : Bill) → CountsAs bill Upper ofWhole → ⊥
+  pub unmarked-now : RemainAs unmarkedNow → ⊥
+  pub total-now : TotalsAs totalNow → ⊥
+  pub untested : (A : List ℕ → List ℕ → List ℕ → ℕ) → LooksUntested A → ⊥
   pub does-nothing : PostsAs doesNothing → ⊥
   pub fills-first : PostsAs fillsFirst → ⊥
   -- at p = 2 ^ 60, C = 256, block 39 would be empty; it is not
