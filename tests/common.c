@@ -357,29 +357,38 @@ uint8_t *copy_of(const uint8_t *bytes, size_t len)
     return copy;
 }
 
-/* Pairs of refusals. */
+/* Pairs of refusals; a number alone is a pair with itself. */
 
-static uint64_t times_met[10][10];
+/* One more than the largest number that a bit of ref_refusals can stand for. */
+enum { NUMBERS = 8 * sizeof(ref_refusals) };
+
+static uint64_t times_met[NUMBERS][NUMBERS];
 
 void met(ref_refusals refusals)
 {
-    for (int i = 1; i <= 9; i++)
-        for (int j = i; j <= 9; j++)
+    for (int i = 1; i < NUMBERS; i++)
+        for (int j = i; j < NUMBERS; j++)
             if ((refusals >> i & 1) && (refusals >> j & 1))
                 times_met[i][j]++;
     if (refusals == 0)
         times_met[0][0]++;
 }
 
+/* The first number or pair of the text. Gives the text behind it. */
+static const char *require_first(const char *pairs)
+{
+    char *end;
+    long i = strtol(pairs, &end, 10), j = *end == '+' ? strtol(end + 1, &end, 10) : i;
+    CHECK(i >= 1 && i <= j && j < NUMBERS && (*end == ' ' || *end == '\0'), "neither a number nor a pair: %s", pairs);
+    CHECK(times_met[i][j] > 0, "no case was met to which %ld and %ld apply", i, j);
+    return end;
+}
+
 void require_met(const char *pairs)
 {
     CHECK(times_met[0][0] > 0, "no case without a refusal was met");
-    for (const char *at = pairs; *at != '\0'; at++) {
-        int i = at[0] - '0', j = at[1] >= '0' && at[1] <= '9' ? at[1] - '0' : i;
-        CHECK(times_met[i][j] > 0, "no case was met to which %d and %d apply", i, j);
-        while (at[1] != '\0' && *at != ' ')
-            at++;
-    }
+    while (*pairs != '\0')
+        pairs = require_first(pairs);
 }
 
 /* Numbers, ledgers, lists and sheets. */
@@ -515,12 +524,12 @@ uint64_t count_charged(uint64_t p, int added)
 
 /* Cases. */
 
+/* The answer where these two apply; 0 where neither does. */
 static int64_t smaller(int first, int second)
 {
-    int none = 10;
-    int x = first == NOTHING ? none : first, y = second == NOTHING ? none : second;
-    int least = x < y ? x : y;
-    return least == none ? 0 : -least;
+    if (first == NOTHING || second == NOTHING)
+        return -(first == NOTHING ? second : first);
+    return -(first < second ? first : second);
 }
 
 static void run_pair(const struct suite *suite, int first, int second)

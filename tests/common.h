@@ -72,7 +72,10 @@ typedef int64_t quote_call(uint64_t p, uint64_t c, uint64_t row, uint64_t block,
 /* A copy on the heap, for the reference; freed by the caller. */
 uint8_t *copy_of(const uint8_t *bytes, size_t len);
 
-/* Pairs of refusals. `met` counts what applied to one case; `require_met` fails for a number or pair not met. */
+/*
+ * Pairs of refusals. `met` counts what applied to one case; `require_met` fails
+ * for a number or pair not met, of those that the text has, as "1 2 10 1+2 2+10".
+ */
 void met(ref_refusals refusals);
 void require_met(const char *pairs);
 

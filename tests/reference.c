@@ -45,7 +45,7 @@ void ref_store_sum(uint8_t *at, ref_u128 sum)
 
 int64_t ref_answer(ref_refusals refusals)
 {
-    for (int i = 1; i <= 9; i++)
+    for (int i = 1; refusals >> i != 0; i++)
         if (refusals >> i & 1)
             return -i;
     return 0;

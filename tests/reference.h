@@ -52,6 +52,8 @@ int64_t ref_close(ref_formula *f, const uint8_t *ledger, size_t ledger_len, uint
  * smaller number applies then.
  */
 typedef unsigned ref_refusals;
+/* The last number of the table. */
+enum { REF_LAST_REFUSAL = 9 };
 /* The working calls, of a ticket and of its halves, are refused alike, and so are the quotes. */
 ref_refusals ref_work_refusals(ref_formula *f, uint64_t p, uint64_t c, uint64_t row, uint64_t block, size_t sum_len,
                                size_t squarings_len);
@@ -99,6 +101,7 @@ ref_u128 ref_range_squarings(ref_formula *f, uint64_t p, uint64_t row, ref_range
 uint64_t ref_load(const uint8_t *at, size_t bytes);
 ref_u128 ref_load_sum(const uint8_t *at);
 void ref_store_sum(uint8_t *at, ref_u128 sum);
+/* The smallest number, negated; 0 where none applies. */
 int64_t ref_answer(ref_refusals refusals);
 int ref_ledger_in_order(ref_formula *f, const uint8_t *ledger);
 int ref_marked(ref_formula *f, const uint8_t *ledger, uint64_t row, uint64_t block);

@@ -454,6 +454,6 @@ int main(int argc, char **argv)
     one_unmarked(9);
     one_unmarked(256);
     run_suite(&suite);
-    require_met("1 5 8 9 15 18 19 58 59 89");
+    require_met("1 5 8 9 1+5 1+8 1+9 5+8 5+9 8+9");
     return finish();
 }

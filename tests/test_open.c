@@ -132,6 +132,6 @@ int main(int argc, char **argv)
     every_block_count();
     every_ledger_size(prepare, compare, &t.ledger_len, 0);
     run_suite(&suite);
-    require_met("1 2 12");
+    require_met("1 2 1+2");
     return finish();
 }

@@ -1,11 +1,13 @@
 /*
  * The reference against vectors.txt: terms, counts, blocks, tickets, halves and
  * quotes; its a and b, and the squarings of its quotes, against a count term by
- * term. No engine is linked.
+ * term; and that refusals of two digits are counted. No engine is linked.
  */
 #include "vectors.h"
 
 #include <inttypes.h>
+#include <stdio.h>
+#include <unistd.h>
 
 static void compare_term(const struct term_vector *v)
 {
@@ -105,6 +107,34 @@ static void squarings_at_edges(void)
             }
 }
 
+/* What `require` asks, in a child process, of which nothing is to be seen but how it ends. */
+static const char *required;
+
+static void require(void)
+{
+    if (freopen("/dev/null", "w", stderr) == NULL)
+        _exit(2);
+    require_met(required);
+}
+
+/* No number is cut to a digit or taken for two, neither as an answer nor where pairs are counted. */
+static void numbers_of_two_digits(void)
+{
+    static const char *const unmet[] = {"0", "12", "22", "1+10", "2+11", "11+10", "1+2+10", "10 11 12"};
+    for (int i = 1; i < 32; i++)
+        for (int j = i; j < 32; j++)
+            CHECK(ref_answer((ref_refusals)1 << i | (ref_refusals)1 << j) == -i, "the answer to %d and %d", i, j);
+    CHECK(ref_answer(0) == 0, "the answer to no refusal");
+    met(0);
+    met(1 << 1 | 1 << 2);
+    met(1 << 10 | 1 << 11);
+    require_met("1 2 10 11 1+2 10+11");
+    for (size_t i = 0; i < sizeof unmet / sizeof unmet[0]; i++) {
+        required = unmet[i];
+        CHECK(!comes_back(require), "not met, but not missed: %s", required);
+    }
+}
+
 /* The reference's calls by the formula that is tried. */
 #define WORKING(name) \
     static int64_t name(uint64_t p, uint64_t c, uint64_t row, uint64_t block, uint8_t *sum, size_t sum_len, \
@@ -144,5 +174,6 @@ int main(int argc, char **argv)
     for (uint64_t p = 1; p <= 3000; p++)
         compare_charges(p);
     compare_charges(1000000);
+    numbers_of_two_digits();
     return finish();
 }

@@ -4,12 +4,15 @@
  * 256 bytes or of the other kind's size, what is past the kind's last row or
  * position, and totals at the edges of p = 1. The look of slip 6, which check
  * runs have not, is put to all that posting a sheet is, the quotes of slip 7 to
- * all that working is. The answers stand here; no reference is asked.
+ * all that working is. The answers stand here; no reference is asked. Every number
+ * of the table has an example here, and words in the programs.
  */
 #include "common.h"
 
 #include <inttypes.h>
 #include <string.h>
+
+#include "program.h"
 
 /* What calls are made with: a ledger, and up to two tickets of a run. `calls` are those that the example fits. */
 struct example {
@@ -203,9 +206,37 @@ static void try_example(const struct example *x, const struct call *call)
         expect_kept(slot, x->words);
 }
 
+/* The table has one end, for the examples and for the programs. Check runs have fewer calls. */
+#ifndef CHECK_RUN
+static int has_example(int number)
+{
+    for (size_t i = 0; i < sizeof examples / sizeof examples[0]; i++)
+        if (examples[i].number == number)
+            return 1;
+    return 0;
+}
+
+static int has_words(int number)
+{
+    return strcmp(meaning(-number), meaning(0)) != 0;
+}
+
+static void whole_table(void)
+{
+    for (int number = 1; number <= REF_LAST_REFUSAL; number++) {
+        CHECK(has_example(number), "no example of %d", number);
+        CHECK(has_words(number), "no words for %d", number);
+    }
+    CHECK(!has_words(REF_LAST_REFUSAL + 1), "words for %d", REF_LAST_REFUSAL + 1);
+}
+#endif
+
 int main(int argc, char **argv)
 {
     start("refusals", argc, argv);
+#ifndef CHECK_RUN
+    whole_table();
+#endif
     for (size_t i = 0; i < sizeof examples / sizeof examples[0]; i++)
         for (size_t j = 0; j < sizeof calls / sizeof calls[0]; j++)
             if (examples[i].calls >> j & 1)

@@ -181,6 +181,6 @@ int main(int argc, char **argv)
     every_count();
     more_than_the_run_has();
     run_suite(&suite);
-    require_met("1 2 3 4 12 13 14 23 24 34");
+    require_met("1 2 3 4 1+2 1+3 1+4 2+3 2+4 3+4");
     return finish();
 }

@@ -257,7 +257,7 @@ int main(int argc, char **argv)
     far_positions();
     empty_lists();
     run_suite(&suite);
-    require_met("1 2 3 4 12 13 14 23 24 34");
+    require_met("1 2 3 4 1+2 1+3 1+4 2+3 2+4 3+4");
     CHECK(still_working(write_at_the_last_position), "a sheet of one ticket at the last p is written at once");
     return finish();
 }

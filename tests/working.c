@@ -163,7 +163,7 @@ void try_tickets(int slices, int64_t (*compare_case)(void))
     small_runs();
     far_tickets();
     run_suite(&suite);
-    require_met("1 2 4 12 14 24");
+    require_met("1 2 4 1+2 1+4 2+4");
 }
 
 /* One call. */
