@@ -8,7 +8,8 @@
 # make published          Table 4 of document 001 at 10^7 and 10^8, by both formulas
 # make published-long     the same at 10^9 to 10^11, in hours; LONG= for other positions, PROCESSES= at a time, CHECK=1 for
 #                         check runs in place of Bellard's
-# make install            header, proved library, pkg-config file, FORMATS.md, CHANGELOG.md: below PREFIX=/usr/local; DESTDIR=
+# make install            header, proved library, pkg-config file, FORMATS.md, CHANGELOG.md: below PREFIX=/usr/local, an
+#                         absolute path; DESTDIR=
 # make uninstall          removes what install put there
 # make standin            the stand-in for the engine, in C: ENGINE=build/standin/libengine.a takes its place in any of
 #                         these but install
@@ -35,6 +36,9 @@ PROCESSES =
 CALLS = work work_lower work_upper quote quote_lower quote_upper open post sheet_write sheet_read sheet_post close
 BELLARD_CALLS = look
 SYMBOLS = $(CALLS:%=bbp_%) $(BELLARD_CALLS:%=bbp_%) $(CALLS:%=bbp_check_%)
+
+# A text as one word of the shell, whatever is in it but a newline.
+quoted = '$(subst ','\'',$(1))'
 
 # Not for a command line to change: install goes by it.
 override PROVED = target/staticlib/libengine.a
@@ -63,7 +67,8 @@ HEADERS = $(wildcard include/*.h tests/*.h examples/*.h bench/*.h)
 
 # The stand-in keeps the number of the way in which it is wrong, and has no closing program.
 OF_PROVED = $(if $(filter $(PROVED),$(ENGINE)),$(1))
-COMMANDS = 'bash tests/header.sh build' 'build/test_reference' 'build/test_check_reference' \
+COMMANDS = 'bash tests/header.sh build' 'bash tests/exports.sh crates include/bbp.h $(SYMBOLS)' \
+	'build/test_reference' 'build/test_check_reference' \
 	'bash tests/mutants/run.sh build/mutants $(TESTS)' \
 	'bash tests/mutants/libraries.sh build/mutants $(STANDIN) $(SYMBOLS)' 'bash tests/symbols.sh $(ENGINE) $(SYMBOLS)' \
 	'bash tests/branches.sh $(ENGINE)' 'bash tests/sources.sh crates montgomery::power montgomery::double' \
@@ -78,10 +83,10 @@ BUILT = build/test_reference build/test_check_reference $(TESTS:%=build/mutants/
 .PHONY: digits rows test check bench published published-long install uninstall standin vectors clean help
 
 digits: $(OUT)/acceptance
-	@$(OUT)/acceptance $(if $(CHECK),--check) $(if $(HALVES),--halves) $(if $(KEEP),--keep $(KEEP)) $(P)
+	@$(OUT)/acceptance $(if $(CHECK),--check) $(if $(HALVES),--halves) $(if $(KEEP),--keep $(call quoted,$(KEEP))) $(P)
 
 rows: $(OUT)/acceptance
-	@$(OUT)/acceptance --rows $(LEDGER) $(ROWS)
+	@$(OUT)/acceptance --rows $(if $(LEDGER),$(call quoted,$(LEDGER))) $(ROWS)
 
 test:
 	bash .ci/run
@@ -108,18 +113,35 @@ published-long: $(OUT)/farm $(OUT)/published
 DOCS = share/doc/bbp
 INSTALLED = include/bbp.h=include/bbp.h $(PROVED)=lib/libbbp.a build/bbp.pc=lib/pkgconfig/bbp.pc \
 	docs/FORMATS.md=$(DOCS)/FORMATS.md CHANGELOG.md=$(DOCS)/CHANGELOG.md
-PLACE = $(DESTDIR)$(PREFIX)
+PLACE = $(call quoted,$(DESTDIR)$(PREFIX))
 VERSION = $(shell sed -n 's/^\#define BBP_VERSION_\(MAJOR\|MINOR\|PATCH\) //p' include/bbp.h | paste -sd.)
 
+# What cannot be a place is refused before anything is done. The x is for a PREFIX with a space in front.
+define newline
+
+
+endef
+ifneq ($(filter install uninstall,$(MAKECMDGOALS)),)
+ifeq ($(filter x/%,$(firstword x$(PREFIX))),)
+$(error PREFIX is not an absolute path: $(PREFIX))
+endif
+ifneq ($(findstring $(newline),$(DESTDIR)$(PREFIX)),)
+$(error a newline in PREFIX or DESTDIR)
+endif
+endif
+
+# The prefix is a line of its own, since any character of it could be one of a sed script. pkg-config takes what is behind a
+# backslash as it is.
 install: $(ENGINE)
 	@[ '$(ENGINE)' = '$(PROVED)' ] || { echo 'install: $(ENGINE) is not the proved library' >&2; exit 1; }
 	@mkdir -p build
-	sed 's,@PREFIX@,$(PREFIX),; s,@VERSION@,$(VERSION),' bbp.pc.in >build/bbp.pc
-	set -e; $(foreach file,$(INSTALLED),install -D -m 644 $(subst =, $(PLACE)/,$(file));)
+	{ printf '%s\n' $(call quoted,prefix=$(PREFIX)) | sed 's/[[:space:]"'\''#\]/\\&/g'; \
+	sed 's/@VERSION@/$(VERSION)/' bbp.pc.in; } >build/bbp.pc
+	set -e; $(foreach file,$(INSTALLED),install -D -m 644 -- $(subst =, $(PLACE)/,$(file));)
 
 uninstall:
-	rm -f $(foreach file,$(INSTALLED),$(PLACE)/$(lastword $(subst =, ,$(file))))
-	[ ! -d $(PLACE)/$(DOCS) ] || rmdir --ignore-fail-on-non-empty $(PLACE)/$(DOCS)
+	rm -f -- $(foreach file,$(INSTALLED),$(PLACE)/$(lastword $(subst =, ,$(file))))
+	[ ! -d $(PLACE)/$(DOCS) ] || rmdir --ignore-fail-on-non-empty -- $(PLACE)/$(DOCS)
 
 help:
 	@sed -n '/^#/!q; s/^# //p' $(firstword $(MAKEFILE_LIST))
