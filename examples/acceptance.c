@@ -2,8 +2,10 @@
  * acceptance [--check] [--halves] [--keep FILE] POSITION [BLOCKS] - opens a
  * run, works all its tickets, closes it and prints the closing line: position,
  * number of digits, digits. With --keep the ledger is written to FILE before it
- * is closed, so that it is there where the closing is refused or looks odd. FILE
- * is opened before the work: one that cannot be written is known at once.
+ * is closed, so that it is there where the closing is refused or looks odd. A
+ * FILE that cannot be written is known before the work. An older FILE stays as
+ * it is until the new one is complete and takes its place; a device or a pipe is
+ * written itself.
  *
  * In each row every fourth ticket comes as a supplier's: it is written into a
  * sheet, the sheet is read back, looked at beside the ledger, and posted as a
@@ -44,11 +46,10 @@
  * or which is the first that differs, counted from 1: `differ at digit 7`. The
  * status is then 4. Both runs are opened before any work, so that a position
  * beyond those of check runs is refused at once. With --keep the check run's
- * ledger is written to FILE.check, which is opened before the work as well. Where
- * a call is refused the program ends: the lines printed before stay, and a file
- * not written yet is empty. A call of the check run is named with the word
- * `check` before it, and so are its quote and its squarings. Both quotes come
- * before any work.
+ * ledger is written to FILE.check in the same way. Where a call is refused the
+ * program ends: the lines printed before stay, and so does what was kept. A call
+ * of the check run is named with the word `check` before it, and so are its quote
+ * and its squarings. Both quotes come before any work.
  *
  * A sum and a sheet do not name their formula: a ledger of the other kind can
  * take them, and its digits would be wrong. So each run has a struct of its own
@@ -72,7 +73,7 @@
  *
  * A refusal or a failure ends with status 1, arguments that are not these with 2.
  */
-#define _POSIX_C_SOURCE 200809L
+#define _XOPEN_SOURCE 700
 
 #include <bbp.h>
 
@@ -81,6 +82,7 @@
 #include <string.h>
 
 #include "halves.h"
+#include "keep.h"
 #include "kinds.h"
 #include "program.h"
 #include "progress.h"
@@ -102,7 +104,7 @@ struct run {
     uint8_t ledger[BBP_LEDGER_SIZE], digits[BBP_DIGITS_SIZE]; /* a check ledger is the shorter */
     int64_t d;
     char *kept;
-    FILE *file;
+    int direct; /* a device or pipe of that name, to be written itself; otherwise -1 */
     struct progress bar;
 };
 
@@ -251,22 +253,22 @@ static void work_run(struct run *run)
     progress_end(&run->bar);
 }
 
-static void open_kept(struct run *run, const char *name)
+static void name_kept(struct run *run, const char *name)
 {
     size_t room = strlen(name) + strlen(run->kind->suffix) + 1;
     run->kept = malloc(room);
     if (run->kept == NULL)
         fail(name);
     snprintf(run->kept, room, "%s%s", name, run->kind->suffix);
-    run->file = fopen(run->kept, "wb");
-    if (run->file == NULL)
-        fail(run->kept);
+    run->direct = open_kept(run->kept);
 }
 
 static void write_kept(struct run *run)
 {
     size_t size = run->kind->ledger_size;
-    if (fwrite(run->ledger, 1, size, run->file) != size || fclose(run->file) != 0)
+    if (run->direct < 0)
+        keep(run->kept, run->ledger, size);
+    else if (!write_all(run->direct, run->ledger, size) || close(run->direct) != 0)
         fail(run->kept);
     free(run->kept);
 }
@@ -275,7 +277,7 @@ static void write_kept(struct run *run)
 static void finish_run(struct run *run)
 {
     work_run(run);
-    if (run->file != NULL)
+    if (run->kept != NULL)
         write_kept(run);
     say_squarings(run);
     run->d = print_closing(run->kind, run->p, run->ledger, run->digits);
@@ -427,7 +429,7 @@ static int accept_runs(const struct options *options, uint64_t p, uint64_t c)
     for (int i = 0; i < count; i++) {
         runs[i].by_halves = options->by_halves;
         if (options->kept != NULL)
-            open_kept(&runs[i], options->kept);
+            name_kept(&runs[i], options->kept);
     }
     for (int i = 0; i < count; i++)
         quote_run(&runs[i]);
@@ -439,6 +441,7 @@ static int accept_runs(const struct options *options, uint64_t p, uint64_t c)
 int main(int argc, char **argv)
 {
     struct options options = {0, 0, NULL};
+    open_closed_descriptors();
     if (argc > 2 && strcmp(argv[1], "--rows") == 0)
         return show_rows(argv[2], argc - 3, argv + 3);
     char **numbers = take_options(argv + 1, &options);

@@ -1,10 +1,14 @@
-/* What the programs over bbp.h share: numbers in arguments, bytes and decimal, sums, refusals in words, the end of the output. */
+/*
+ * What the programs over bbp.h share: numbers in arguments, bytes and decimal, sums, refusals in words, the standard
+ * descriptors, the end of the output.
+ */
 #ifndef PROGRAM_H
 #define PROGRAM_H
 
 #include <bbp.h>
 
 #include <errno.h>
+#include <fcntl.h>
 #include <inttypes.h>
 #include <stdio.h>
 #include <stdlib.h>
@@ -98,6 +102,19 @@ static inline void fail(const char *what)
 {
     perror(what);
     exit(1);
+}
+
+/*
+ * For the start of a program that opens files: a file must not get the number of
+ * a standard descriptor that is closed, and with it what is written there. So
+ * the root folder is opened in its place, which can be read and written as little
+ * as a closed descriptor, also by names such as /dev/stderr.
+ */
+static inline void open_closed_descriptors(void)
+{
+    for (int i = 0; i <= 2; i++)
+        if (fcntl(i, F_GETFD) < 0 && open("/", O_RDONLY) != i)
+            fail("/");
 }
 
 /* Standard output that could not be written ends the program. */

@@ -1,4 +1,4 @@
-# checks.sh - sourced by the tests of programs, which set `name` before and print `checks` at their end.
+# checks.sh - sourced by tests, which set `name` before and print `checks` at their end.
 checks=0
 scratch=$(mktemp -d) || exit 2
 trap 'rm -rf "$scratch"' EXIT
@@ -59,7 +59,7 @@ wrapped() {
     local program=$1 source=$2
     shift 2
     printf '%s\n' '#include <bbp.h>' "$@" >"$scratch/wrapped.h"
-    ${CC:-gcc} -std=c99 -D_POSIX_C_SOURCE=200809L -Iinclude -Iexamples -include "$scratch/wrapped.h" "$source" \
+    ${CC:-gcc} -std=c99 -D_XOPEN_SOURCE=700 -Iinclude -Iexamples -include "$scratch/wrapped.h" "$source" \
         "$ENGINE" ${LDFLAGS:-} -o "$scratch/$program" || exit 2
 }
 

@@ -1,8 +1,8 @@
 #!/usr/bin/env bash
 # examples.sh MINIMAL ACCEPTANCE - the examples, run: digits of pi at 1 and 1,000, refusals, arguments that are no
 # numbers, output that cannot be written, sheets looked at before they are posted, tickets worked by halves, squarings
-# quoted and made, check runs beside the others, ledgers of both kinds kept and their rows shown, and the bytes that
-# docs/FORMATS.md shows.
+# quoted and made, check runs beside the others, ledgers of both kinds kept, also in place of older ones and without
+# standard descriptors, and their rows shown, and the bytes that docs/FORMATS.md shows.
 # ENGINE is the library that they are built with.
 set -u
 minimal=$1
@@ -58,6 +58,9 @@ for call in open work post close; do
     refusing examples/minimal.c bbp_$call
     same "what minimal says of $call" "$said" "refused 7"
 done
+wrapped refusing examples/minimal.c "$(instead bbp_close -12)"
+ends 1 "$scratch/refusing"
+same "what minimal says of a number of two digits" "$said" "refused 12"
 for call in open quote work post sheet_write sheet_read look sheet_post close; do
     refusing examples/acceptance.c bbp_$call 1000 5
     same "what acceptance says of $call" "$said" "${call/_/ }: refused 7: ticket marked already"
@@ -218,12 +221,13 @@ unfinished_ledgers() {
 # number_of WORD P ROW - the number in the line of tests/vectors.txt for the row's one ticket where C is 1.
 number_of() { sed -n "s/^$1 $2 1 $3 0 //p" tests/vectors.txt; }
 
-# failing TEXT LINE.. - built with these lines, a run by halves ends with status 1, and says that.
+# failing OPTIONS TEXT LINE.. - built with these lines, a run with these options ends with status 1, and says that.
 failing() {
-    local text=$1
-    shift
-    wrapped failing examples/acceptance.c '#include <errno.h>' '#include <signal.h>' '#include <unistd.h>' "$@"
-    ends 1 "$scratch/failing" --halves 1000 5
+    local options=$1 text=$2
+    shift 2
+    wrapped failing examples/acceptance.c '#include <errno.h>' '#include <signal.h>' '#include <stdio.h>' \
+        '#include <unistd.h>' "$@"
+    ends 1 "$scratch/failing" $options 1000 5
     same "what is said of $*" "$said" "$text"
 }
 
@@ -250,14 +254,14 @@ halves() {
     wrapped whole examples/acceptance.c "$(instead bbp_work_lower -7)" "$(instead bbp_work_upper -7)"
     prints 0 "$line" "$scratch/whole" 1000 5
     # The child is killed, ends without a word, writes short, or fails after it wrote.
-    failing "$failed" "$(instead bbp_work_upper 'raise(SIGKILL)')"
-    failing "$failed" "$(instead bbp_work_upper '(_exit(0), 0)')"
-    failing "$failed" '#define write(file, bytes, len) write(file, bytes, (len) - 1)'
-    failing "$failed" '#define write(file, bytes, len) (write(file, bytes, (len) - 1), (ssize_t)(len))'
-    failing "$failed" '#define write(file, bytes, len) (write(file, bytes, len), (ssize_t)-1)'
-    failing "$failed" '#define write(file, bytes, len) (write(file, bytes, len), raise(SIGKILL), (ssize_t)0)'
-    failing "pipe: Too many open files" '#define pipe(ends) (errno = EMFILE, -1)'
-    failing "fork: Resource temporarily unavailable" '#define fork() (errno = EAGAIN, (pid_t)-1)'
+    failing --halves "$failed" "$(instead bbp_work_upper 'raise(SIGKILL)')"
+    failing --halves "$failed" "$(instead bbp_work_upper '(_exit(0), 0)')"
+    failing --halves "$failed" '#define write(file, bytes, len) write(file, bytes, (len) - 1)'
+    failing --halves "$failed" '#define write(file, bytes, len) (write(file, bytes, (len) - 1), (ssize_t)(len))'
+    failing --halves "$failed" '#define write(file, bytes, len) (write(file, bytes, len), (ssize_t)-1)'
+    failing --halves "$failed" '#define write(file, bytes, len) (write(file, bytes, len), raise(SIGKILL), (ssize_t)0)'
+    failing --halves "pipe: Too many open files" '#define pipe(ends) (errno = EMFILE, -1)'
+    failing --halves "fork: Resource temporarily unavailable" '#define fork() (errno = EAGAIN, (pid_t)-1)'
     stopped TERM 143 1 "$acceptance" --halves 1152921504606846976 1
     stopped KILL 137 1 "$acceptance" --halves 1152921504606846976 1
 }
@@ -468,13 +472,165 @@ before_the_work() {
     same "what is said of its full device" "$said" "$scratch/full_device.check: No space left on device"
 }
 
-# unsettled CALL SAID OUTPUT SIZE - a closing that is refused with 9; the size of the check ledger kept. The other is kept.
+# unsettled CALL SAID OUTPUT SIZES - a closing that is refused with 9; the sizes of the ledgers kept.
 unsettled() {
     rm -f "$ledger" "$ledger.check"
     wrapped unsettled examples/acceptance.c "$(instead "$1" -9)"
     prints 1 "$3" "$scratch/unsettled" --check --keep "$ledger" 1000 5
     same "what is said of $1" "$said" "$2: refused 9: the total does not settle the first digit"
-    same "the sizes of the ledgers kept" "$(cat "$ledger" | wc -c) $(cat "$ledger.check" | wc -c)" "352 $4"
+    same "the sizes of the ledgers kept" "$(stat -c %s "$ledger" "$ledger.check" 2>/dev/null | tr '\n' ' ')" "$4 "
+}
+
+# A folder with ledgers of both kinds, which an earlier run left, and those that the next run, 1000 5, is to keep.
+folder=$scratch/older older=$scratch/older/ledger
+older_ledgers() {
+    rm -rf "$folder"
+    mkdir "$folder"
+    "$acceptance" --check --keep "$older" 1 14 >/dev/null 2>&1
+    cp "$older" "$scratch/earlier"
+    cp "$older.check" "$scratch/earlier.check"
+    "$acceptance" --check --keep "$scratch/next" 1000 5 >/dev/null 2>&1
+}
+
+# kept_is WHAT RUN [CHECK_RUN] - both ledgers are those of the `earlier` or the `next` run, and nothing is beside them.
+kept_is() {
+    same "the ledger after $1" "$(cmp "$older" "$scratch/$2" 2>&1)" ""
+    same "the check ledger after $1" "$(cmp "$older.check" "$scratch/${3:-$2}.check" 2>&1)" ""
+    same "the files after $1" "$(ls -A "$folder" | tr '\n' ' ')" "ledger ledger.check "
+}
+
+is_quoted() { [ "$(grep -c quote: "$scratch/err")" -eq 2 ]; }
+
+# A run that is killed at its work, and one that is killed when its ledger is to take the older one's place.
+killed_runs() {
+    local parent left
+    older_ledgers
+    "$acceptance" --check --keep "$older" 576460752303423488 >/dev/null 2>"$scratch/err" &
+    parent=$!
+    until_true is_quoted
+    kill -KILL "$parent"
+    wait "$parent" 2>/dev/null
+    same "the status of a run that is killed" $? 137
+    kept_is "a run that is killed" earlier
+    wrapped killed examples/acceptance.c '#include <signal.h>' '#include <stdio.h>' '#define rename(from, to) raise(SIGKILL)'
+    ends 137 bash -c '"$0" --check --keep "$1" 1000 5; exit $?' "$scratch/killed" "$older"
+    left=$(find "$folder" -name '.kept-*')
+    same "the file left by a run that is killed" "$(cmp "$left" "$scratch/next" 2>&1)" ""
+    rm "$left"
+    kept_is "a run that is killed before its ledger is in place" earlier
+}
+
+# A ledger that cannot be written whole or be put in the older one's place, and runs that end before.
+failed_runs() {
+    local keep="--check --keep $older"
+    older_ledgers
+    failing "$keep" "$older: No space left on device" '#define write(file, bytes, len) (errno = ENOSPC, (ssize_t)-1)'
+    kept_is "a write that fails" earlier
+    failing "$keep" "$older: No space left on device" \
+        '#define write(file, bytes, len) (len < 352 ? (errno = ENOSPC, (ssize_t)-1) : write(file, bytes, 100))'
+    kept_is "a second write that fails" earlier
+    failing "$keep" "$older: Input/output error" '#define fsync(file) (errno = EIO, -1)'
+    kept_is "a disk that fails" earlier
+    failing "$keep" "$older: Operation not permitted" '#define rename(from, to) (errno = EPERM, -1)'
+    kept_is "a file that cannot be replaced" earlier
+    # No file may grow, as on a full disk.
+    same "what is said where no file may grow" \
+        "$( (trap '' XFSZ; ulimit -f 0; exec "$acceptance" $keep 1000 5 2>&1) | tail -n 1)" "$older: File too large"
+    kept_is "a run where no file may grow" earlier
+    ends 2 "$acceptance" $keep 1000 x
+    ends 1 "$acceptance" $keep 1000 257
+    kept_is "refused arguments" earlier
+    refusing examples/acceptance.c bbp_work $keep 1000 5
+    kept_is "a refused call" earlier
+    wrapped refusing examples/acceptance.c "$(instead bbp_check_work -7)"
+    prints 1 "$line" "$scratch/refusing" $keep 1000 5
+    kept_is "a refused call of the check run" next earlier
+}
+
+# Permissions are those of a new file. A name that is taken is left alone, a short write goes on, and the name may have the
+# greatest length.
+replaced_ledgers() {
+    local long program
+    older_ledgers
+    chmod 600 "$older" "$older.check"
+    (umask 027; "$acceptance" --check --keep "$older" 1000 5 >/dev/null 2>&1)
+    kept_is "a run" next
+    same "the permissions of the ledgers kept" "$(stat -c %a "$older" "$older.check" | tr '\n' ' ')" "640 640 "
+    older_ledgers
+    echo other >"$folder/.kept-7-0"
+    wrapped taken examples/acceptance.c '#include <unistd.h>' '#define getpid() 7' \
+        '#define write(file, bytes, len) write(file, bytes, (len) < 100 ? (len) : 100)'
+    prints 0 "$both" "$scratch/taken" --check --keep "$older" 1000 5
+    same "the file of another run" "$(cat "$folder/.kept-7-0")" other
+    rm "$folder/.kept-7-0"
+    kept_is "a run beside another" next
+    long=$(printf 'x%.0s' $(seq 255)) program=$(realpath "$acceptance")
+    (cd "$folder" && "$program" --keep "$long" 1000 5 >/dev/null 2>&1)
+    same "the ledger under a long name" "$(cmp "$folder/$long" "$scratch/next" 2>&1)" ""
+}
+
+# The file that a link leads to is replaced, and not the link. A pipe or a device is written itself.
+links_and_devices() {
+    local links=$scratch/links
+    older_ledgers
+    mkdir "$links"
+    ln -s ../older/ledger "$links/link"
+    ln -s ../older/ledger.check "$links/link.check"
+    prints 0 "$both" "$acceptance" --check --keep "$links/link" 1000 5
+    kept_is "a run by links" next
+    same "the links" "$(find "$links" -type l | wc -l) $(ls -A "$links" | wc -l)" "2 2"
+    mkfifo "$scratch/pipe"
+    cat "$scratch/pipe" >"$scratch/piped" &
+    prints 0 "$line" "$acceptance" --keep "$scratch/pipe" 1000 5
+    wait $!
+    same "the ledger by a pipe" "$(cmp "$scratch/piped" "$scratch/next" 2>&1)" ""
+    same "the pipe" "$(find "$scratch/pipe" -type p)" "$scratch/pipe"
+    same "the ledger and the line by one pipe" "$("$acceptance" --keep /dev/stdout 1000 5 2>/dev/null | cksum)" \
+        "$({ cat "$scratch/next"; echo "$line"; } | cksum)"
+}
+
+# Known before the work, which would not end.
+refused_files() {
+    local file last=1152921504606846976
+    ends 1 timeout 60 "$acceptance" --keep '' $last
+    same "what is said of no name" "$said" "No such file or directory"
+    ln -s none "$scratch/nowhere"
+    ends 1 timeout 60 "$acceptance" --keep "$scratch/nowhere" $last
+    same "what is said of a link that leads nowhere" "$said" "$scratch/nowhere: No such file or directory"
+    for file in "$scratch/out" "$scratch/err" /dev/stdout /dev/stderr; do
+        ends 1 timeout 60 "$acceptance" --keep "$file" $last
+        same "what is said of $file" "$said" "$file: standard output or standard error goes there"
+    done
+    # A file that can be written, in a folder that cannot; then a ledger that may not be written, unless by root.
+    ends 1 timeout 60 "$acceptance" --keep /proc/self/comm $last
+    same "what is said of a folder that cannot be written" "${said%%:*}" /proc/self/comm
+    older_ledgers
+    chmod 444 "$older"
+    if [ ! -w "$older" ]; then
+        ends 1 timeout 60 "$acceptance" --keep "$older" $last
+        same "what is said of a ledger that may not be written" "$said" "$older: Permission denied"
+    fi
+}
+
+# No file gets the number of a standard descriptor that is closed. Messages that cannot be written change no status.
+closed_descriptors() {
+    local options
+    for options in '' --halves; do
+        older_ledgers
+        same "a run without standard error" \
+            "$("$acceptance" $options --check --keep "$older" 1000 5 2>&-; echo "status $?")" "$both"$'\nstatus 0'
+        kept_is "a run without standard error" next
+        older_ledgers
+        "$acceptance" $options --check --keep "$older" 1000 5 <&- >&- 2>&-
+        same "the status of a run without standard descriptors" $? 1
+        kept_is "a run without standard descriptors" next earlier
+    done
+    same "a run with standard error on a full device" "$("$acceptance" 1000 5 2>/dev/full; echo "status $?")" "$line"$'\nstatus 0'
+    "$acceptance" --keep /dev/stderr 1000 5 >/dev/null 2>&-
+    same "the status where the ledger goes to standard error, which is closed" $? 1
+    "$acceptance" --rows - <&- >"$scratch/out" 2>&1
+    same "the status without standard input" $? 1
+    same "what is said without standard input" "$(cat "$scratch/out")" "-: Is a directory"
 }
 
 # A line that cannot be written ends the program, also the second and the third.
@@ -667,8 +823,14 @@ halves
 keeping
 checked
 before_the_work
-unsettled bbp_close close "" 0
-unsettled bbp_check_close "check close" "$line" 208
+unsettled bbp_close close "" 352
+unsettled bbp_check_close "check close" "$line" "352 208"
+killed_runs
+failed_runs
+replaced_ledgers
+links_and_devices
+refused_files
+closed_descriptors
 unwritable_lines
 apart
 billing

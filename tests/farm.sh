@@ -86,6 +86,17 @@ unwritable "$farm" 1000 5 "$directory"
 rm "$directory/1000-5.ledger"
 mkdir "$directory/1000-5.ledger"
 ends 1 "$farm" 1000 5 "$directory"
+same "what is said of a ledger that cannot be kept" "$said" "$directory/1000-5.ledger: Is a directory"
+same "files after a ledger that cannot be kept" "$(find "$directory" -type f | wc -l)" 70
+
+# No file gets the number of a standard descriptor that is closed.
+rm -rf "$directory"
+opened='fcntl(0, F_GETFD) >= 0 && fcntl(2, F_GETFD) >= 0'
+wrapped opened tools/farm.c '#include <fcntl.h>' \
+    "$(instead bbp_sheet_write "$opened ? $(call bbp_sheet_write) : -7")" \
+    "$(instead bbp_sheet_post "$opened ? $(call bbp_sheet_post) : -7")"
+same "a run without standard input and standard error" "$("$scratch/opened" 1000 5 "$directory" <&- 2>&-)" "$line"
+unwritable "$scratch/opened" 1000 5 "$directory"
 
 # Tickets that take minutes.
 for end in 'TERM 143' 'INT 130' 'HUP 129' 'KILL 137'; do

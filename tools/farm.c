@@ -17,7 +17,7 @@
  * A sheet does not name its formula, so the files of a check run have names of
  * their own (1000-5-3-0.check.sheet): both kinds can share a directory.
  */
-#define _POSIX_C_SOURCE 200809L
+#define _XOPEN_SOURCE 700
 
 #include <bbp.h>
 
@@ -29,6 +29,7 @@
 #include <sys/stat.h>
 #include <unistd.h>
 
+#include "keep.h"
 #include "kinds.h"
 #include "process.h"
 #include "program.h"
@@ -111,22 +112,6 @@ static int load_sheet(uint64_t row, uint64_t block, uint8_t *sheet)
         return 0;
     checksum_of(sheet, worked);
     return memcmp(stored, worked, CHECKSUM_LEN) == 0 && is_sheet_of(sheet, row, block);
-}
-
-/*
- * Written whole under a name of this process's own first, so that a stopped
- * run leaves no half file, and two runs on one directory do not disturb each
- * other.
- */
-static void keep(const char *path, const uint8_t *bytes, size_t len)
-{
-    char partial[PATH_ROOM + 32];
-    snprintf(partial, sizeof partial, "%s.%ld", path, (long)getpid());
-    FILE *file = fopen(partial, "wb");
-    if (file == NULL || fwrite(bytes, 1, len, file) != len || fflush(file) != 0 || fsync(fileno(file)) != 0)
-        fail(partial);
-    if (fclose(file) != 0 || rename(partial, path) != 0)
-        fail(path);
 }
 
 static void work_ticket(uint64_t row, uint64_t block)
@@ -234,6 +219,7 @@ static void prepare(int argc, char **argv)
 int main(int argc, char **argv)
 {
     uint8_t ledger[BBP_LEDGER_SIZE], digits[BBP_DIGITS_SIZE];
+    open_closed_descriptors();
     prepare(argc, argv);
     farm_finished("open", farm.kind->open(farm.p, farm.c, ledger, farm.kind->ledger_size));
     if (mkdir(farm.directory, 0777) != 0 && errno != EEXIST)
