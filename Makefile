@@ -3,7 +3,8 @@
 #                         by the older formula, and compares the digits, its ledger being kept in FILE.check
 # make rows LEDGER=FILE   each row's sum in a kept ledger beside that of its tickets worked anew; ROWS="0 3" for some
 # make test               the gate: proofs and tests, as .ci/run has them
-# make check              the tests in C alone; SEED= and COUNT= for other random cases
+# make check              the tests in C alone; SEED= and COUNT= for other random cases, JOBS= tests at a time
+# make built              what check runs, built; -j for several at a time
 # make bench              times, beside plain C
 # make published          Table 4 of document 001 at 10^7 and 10^8, by both formulas
 # make published-long     the same at 10^9 to 10^11, in hours; LONG= for other positions, PROCESSES= at a time, CHECK=1 for
@@ -80,7 +81,7 @@ COMMANDS = 'bash tests/header.sh build' 'bash tests/exports.sh crates include/bb
 BUILT = build/test_reference build/test_check_reference $(TESTS:%=build/mutants/test_%) $(TESTS:%=$(OUT)/test_%) \
 	$(addprefix $(OUT)/,minimal acceptance published farm) $(call OF_PROVED,$(CLOSER))
 
-.PHONY: digits rows test check bench published published-long install uninstall standin vectors clean help
+.PHONY: digits rows test check built bench published published-long install uninstall standin vectors clean help
 
 digits: $(OUT)/acceptance
 	@$(OUT)/acceptance $(if $(CHECK),--check) $(if $(HALVES),--halves) $(if $(KEEP),--keep $(call quoted,$(KEEP))) $(P)
@@ -91,7 +92,9 @@ rows: $(OUT)/acceptance
 test:
 	bash .ci/run
 
-check: $(BUILT)
+built: $(BUILT)
+
+check: built
 	@CC="$(CC)" CXX="$(CXX)" ENGINE="$(ENGINE)" LDFLAGS="$(LDFLAGS)" bash tests/run.sh $(COMMANDS)
 
 bench: $(OUT)/bench
