@@ -55,7 +55,7 @@ use Rattle.settlement.proofs.Figures.{spreads}
 use Rattle.settlement.proofs.Squarings.{squaring-figures-hold}
 use Rattle.settlement.proofs.Filler.{filled-exists}
 use Rattle.settlement.proofs.FirstDigits.{closes-with, first-digits}
-use Rattle.wrong_engines.specs.WrongEngines.{lim, AnswersAs, LeavesAs, ClosesAs, byRule, aboveZero, everyAdded, everySubtracted, sameDigits, WorksAs, oneSum, cutInBoth, cutInNeither, ownSigns, Bill, byWorking, byQuoting, CountsAs, countedBy, rightOf, topBitToo, ofWholeE, inOneWord, ofWhole, RemainAs, TotalsAs, unmarkedNow, totalNow, LooksUntested, PostsAs, doesNothing, leftBy, fillEntry, fillsFirst, alwaysNine, nineUnseen, alwaysEight, madeUp, oneLess, byTotal, withoutRow, withoutCarry, wrongSize, wordBound, towardZero, settledTowardZero, Met, ShutOut}
+use Rattle.wrong_engines.specs.WrongEngines.{lim, AnswersAs, LeavesAs, ClosesAs, byRule, aboveZero, everyAdded, everySubtracted, sameDigits, WorksAs, oneSum, cutInBoth, cutInNeither, ownSigns, Way, byWorking, byQuoting, CountsAs, countedBy, rightOf, topBitToo, ofWholeE, inOneWord, ofWhole, RemainAs, TotalsAs, unmarkedNow, totalNow, LooksUntested, PostsAs, doesNothing, leftBy, fillEntry, fillsFirst, alwaysNine, nineUnseen, alwaysEight, madeUp, oneLess, byTotal, withoutRow, withoutCarry, wrongSize, wordBound, towardZero, settledTowardZero, Met, ShutOut}
 use Rattle.run.specs.Call.{answered, bytesLeft, refusedBy, allLeft}
 
 -- 6A8885A308D313198A2E03707344A, the digits from position 5 on that a run settles
@@ -309,7 +309,7 @@ own-signs same =
 -- ---- squarings
 
 -- a call that is not refused leaves their bytes
-left-squarings : (bill : Bill) (part : Part) → CountsAs bill part (partSquarings bellard)
+left-squarings : (way : Way) (part : Part) → CountsAs way part (partSquarings bellard)
 unfolding workCall quoteCall allLeft refusedBy bothSized isSized refusal
 left-squarings byWorking part p C row block out count l m r t = rw (l, m, r, t) refl
 left-squarings byQuoting part p C row block out count l m r t = rw (m, r, t) refl
@@ -318,11 +318,11 @@ counted-rightly : (part : Part) (p C row block : ℕ) → partSquarings bellard 
 unfolding partSquarings rangeSquarings squarings countedBy
 counted-rightly part p C row block = refl
 
-module _ (bill : Bill) (part : Part) (W : Part → ℕ → ℕ → ℕ → ℕ → ℕ) (same : CountsAs bill part W) where
+module _ (way : Way) (part : Part) (W : Part → ℕ → ℕ → ℕ → ℕ → ℕ) (same : CountsAs way part W) where
   both : (p row : ℕ) → inRange lim p 1 ≡ true → isTicket lim 1 row 0 ≡ true
       → bytesOf 16 (partSquarings bellard part p 1 row 0) ≡ bytesOf 16 (W part p 1 row 0)
   both p row r t =
-      sym (left-squarings bill part p 1 row 0 (replicate 16 0) (replicate 16 0) refl refl r t) ∙ same p 1 row 0 (replicate 16 0) (replicate 16 0) refl refl r t
+      sym (left-squarings way part p 1 row 0 (replicate 16 0) (replicate 16 0) refl refl r t) ∙ same p 1 row 0 (replicate 16 0) (replicate 16 0) refl refl r t
 
   -- it parts from the right one where the lowest bytes differ
   parts-at : (p row : ℕ) → inRange lim p 1 ≡ true → isTicket lim 1 row 0 ≡ true
@@ -348,11 +348,11 @@ Differs W row part =
     eqb (getD (bytesOf 16 (partSquarings bellard part (place part) 1 row 0)) 0 0) (getD (bytesOf 16 (W part (place part) 1 row 0)) 0 0) ≡ false
 
 abbrev NoneCounts : (Part → ℕ → ℕ → ℕ → ℕ → ℕ) → Type 0
-NoneCounts W = (bill : Bill) (part : Part) → CountsAs bill part W → ⊥
+NoneCounts W = (way : Way) (part : Part) → CountsAs way part W → ⊥
 
 none-counts : (W : Part → ℕ → ℕ → ℕ → ℕ → ℕ) (row : ℕ) → isTicket lim 1 row 0 ≡ true → Differs W row Whole → Differs W row Lower
     → Differs W row Upper → NoneCounts W
-none-counts W row t whole lower upper bill part same = parts-at bill part W same (place part) row (near part) t (each part)
+none-counts W row t whole lower upper way part same = parts-at way part W same (place part) row (near part) t (each part)
   where
     each : (part : Part) → Differs W row part
     each Whole = whole
@@ -369,19 +369,19 @@ wrong-counts = (
 )
 
 -- each half of row 2 at p = 51 takes some squarings
-whole-for-a-half : ((bill : Bill) → CountsAs bill Lower ofWhole → ⊥) × ((bill : Bill) → CountsAs bill Upper ofWhole → ⊥)
+whole-for-a-half : ((way : Way) → CountsAs way Lower ofWhole → ⊥) × ((way : Way) → CountsAs way Upper ofWhole → ⊥)
 unfolding partSquarings rangeSquarings squarings bitLength bitsIn sum partFirst partEnd cut bound termCount inRange isTicket bytesOf
 whole-for-a-half = (
-  λ bill same. parts-at bill Lower ofWhole same 51 2 refl refl refl,
-  λ bill same. parts-at bill Upper ofWhole same 51 2 refl refl refl,
+  λ way same. parts-at way Lower ofWhole same 51 2 refl refl refl,
+  λ way same. parts-at way Upper ofWhole same 51 2 refl refl refl,
 )
 
 -- at p = 2 ^ 60 the ninth byte of row 0's count is 1
-in-one-word : (bill : Bill) → CountsAs bill Whole inOneWord → ⊥
+in-one-word : (way : Way) → CountsAs way Whole inOneWord → ⊥
 unfolding inOneWord AllSquaringsAre SquaringsAre inRange isTicket bytesOf
-in-one-word bill same =
+in-one-word way same =
     let count : partSquarings bellard Whole (2 ^ 60) 1 0 0 ≡ 27670116110564327790 = squaring-figures-hold .0 .1 .1 .1 .1 .1 .1 .0 in
-    let e = subst (λ (n : ℕ). bytesOf 16 n ≡ bytesOf 16 (n % 2 ^ 64)) count (both bill Whole inOneWord same (2 ^ 60) 0 refl refl) in
+    let e = subst (λ (n : ℕ). bytesOf 16 n ≡ bytesOf 16 (n % 2 ^ 64)) count (both way Whole inOneWord same (2 ^ 60) 0 refl refl) in
     let z : _≡_ {A = ℕ} 1 0 = ap (λ (l : List ℕ). getD l 8 0) e in
     omega (arith, z)
 
@@ -492,8 +492,8 @@ met = record {
   closes = λ s digits. refl;
   works = λ part p C row block out count l m r t. refl;
   counts = left-squarings;
-  counts-by = λ bill part p C row block out count l m r t.
-      left-squarings bill part p C row block out count l m r t ∙ ap (bytesOf 16) (counted-rightly part p C row block);
+  counts-by = λ way part p C row block out count l m r t.
+      left-squarings way part p C row block out count l m r t ∙ ap (bytesOf 16) (counted-rightly part p C row block);
   remain = λ ledger s total n e. look-is ledger s total n e .0;
   totals = λ ledger s total n e. look-is ledger s total n e .1;
   posts = λ p C range posts. posts-left (fresh lim p C) posts;

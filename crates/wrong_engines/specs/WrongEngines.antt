@@ -144,21 +144,21 @@ ownSigns p C row block out count =
 
 -- ---- squarings (document 02, slip 7)
 
--- Who says how many: the call that works a ticket or a half, or the one that quotes it.
-pub data Bill : Type 0 where
-  byWorking : Bill
-  byQuoting : Bill
+-- How a count is had: from the call that works a ticket or a half, or from the one that quotes it.
+pub data Way : Type 0 where
+  byWorking : Way
+  byQuoting : Way
 
--- the bytes that it leaves for them
-abbrev pub billed : Bill → Part → ℕ → ℕ → ℕ → ℕ → List ℕ → List ℕ → List ℕ
-billed byWorking part p C row block out count = bytesLeft (workCall bellard part p C row block out count) 1
-billed byQuoting part p C row block out count = bytesLeft (quoteCall bellard part p C row block count) 0
+-- the bytes that the call leaves for it
+abbrev pub countLeft : Way → Part → ℕ → ℕ → ℕ → ℕ → List ℕ → List ℕ → List ℕ
+countLeft byWorking part p C row block out count = bytesLeft (workCall bellard part p C row block out count) 1
+countLeft byQuoting part p C row block out count = bytesLeft (quoteCall bellard part p C row block count) 0
 
--- the engine's bill for this part of every ticket is what W gives
-abbrev pub CountsAs : Bill → Part → (Part → ℕ → ℕ → ℕ → ℕ → ℕ) → Type 0
-CountsAs bill part W =
+-- the engine's count of this part of every ticket is what W gives
+abbrev pub CountsAs : Way → Part → (Part → ℕ → ℕ → ℕ → ℕ → ℕ) → Type 0
+CountsAs way part W =
     (p C row block : ℕ) (out count : List ℕ) → length out ≡ 16 → length count ≡ 16 → inRange lim p C ≡ true → isTicket lim C row block ≡ true
-    → billed bill part p C row block out count ≡ bytesOf 16 (W part p C row block)
+    → countLeft way part p C row block out count ≡ bytesOf 16 (W part p C row block)
 
 -- a part's squarings where a term with E of `least` or more takes as many as `of E` says, and any other none
 unfoldable pub countedBy : ℕ → (ℕ → ℕ) → Part → ℕ → ℕ → ℕ → ℕ → ℕ
@@ -183,7 +183,7 @@ ofWholeE E = bitLength E - 1
 unfoldable pub inOneWord : Part → ℕ → ℕ → ℕ → ℕ → ℕ
 inOneWord part p C row block = partSquarings bellard part p C row block % 2 ^ 64
 
--- a half is billed as the whole ticket
+-- a half is counted as the whole ticket
 abbrev pub ofWhole : Part → ℕ → ℕ → ℕ → ℕ → ℕ
 ofWhole part = partSquarings bellard Whole
 
@@ -256,8 +256,8 @@ pub record Met : Type 0 where
   pub leaves : LeavesAs (λ s digits. bytesLeft (closeCall bellard s digits) 0)
   pub closes : ClosesAs (byRule isCharged)
   pub works : (part : Part) → WorksAs part (λ p C row block out count. bytesLeft (workCall bellard part p C row block out count) 0)
-  pub counts : (bill : Bill) (part : Part) → CountsAs bill part (partSquarings bellard)
-  pub counts-by : (bill : Bill) (part : Part) → CountsAs bill part (countedBy 128 rightOf)
+  pub counts : (way : Way) (part : Part) → CountsAs way part (partSquarings bellard)
+  pub counts-by : (way : Way) (part : Part) → CountsAs way part (countedBy 128 rightOf)
   pub remain : RemainAs (λ ledger s. unmarkedIn lim (bytesLeft (sheetPostCall lim ledger s) 0))
   pub totals : TotalsAs (λ ledger s. totalIn lim (bytesLeft (sheetPostCall lim ledger s) 0))
   pub posts : PostsAs (postBytes lim)
@@ -283,14 +283,14 @@ pub record ShutOut : Type 0 where
   pub one-half-twice : WorksAs Upper (λ p C row block out count. bytesLeft (workCall bellard Lower p C row block out count) 0) → ⊥
   pub own-signs : WorksAs Upper ownSigns → ⊥
   -- whether a ticket or a half is worked or quoted
-  pub top-bit-too : (bill : Bill) (part : Part) → CountsAs bill part (countedBy 128 topBitToo) → ⊥
-  pub counted-at-127 : (bill : Bill) (part : Part) → CountsAs bill part (countedBy 127 rightOf) → ⊥
-  pub not-counted-at-128 : (bill : Bill) (part : Part) → CountsAs bill part (countedBy 129 rightOf) → ⊥
-  pub of-whole-E : (bill : Bill) (part : Part) → CountsAs bill part (countedBy 128 ofWholeE) → ⊥
+  pub top-bit-too : (way : Way) (part : Part) → CountsAs way part (countedBy 128 topBitToo) → ⊥
+  pub counted-at-127 : (way : Way) (part : Part) → CountsAs way part (countedBy 127 rightOf) → ⊥
+  pub not-counted-at-128 : (way : Way) (part : Part) → CountsAs way part (countedBy 129 rightOf) → ⊥
+  pub of-whole-E : (way : Way) (part : Part) → CountsAs way part (countedBy 128 ofWholeE) → ⊥
   -- no half takes more than a word holds
-  pub in-one-word : (bill : Bill) → CountsAs bill Whole inOneWord → ⊥
-  pub whole-for-lower : (bill : Bill) → CountsAs bill Lower ofWhole → ⊥
-  pub whole-for-upper : (bill : Bill) → CountsAs bill Upper ofWhole → ⊥
+  pub in-one-word : (way : Way) → CountsAs way Whole inOneWord → ⊥
+  pub whole-for-lower : (way : Way) → CountsAs way Lower ofWhole → ⊥
+  pub whole-for-upper : (way : Way) → CountsAs way Upper ofWhole → ⊥
   pub unmarked-now : RemainAs unmarkedNow → ⊥
   pub total-now : TotalsAs totalNow → ⊥
   pub untested : (A : List ℕ → List ℕ → List ℕ → ℕ) → LooksUntested A → ⊥
