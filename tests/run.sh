@@ -5,14 +5,16 @@ set -u
 limit=${JOBS:-$(nproc)}
 scratch=$(mktemp -d) || exit 2
 trap 'rm -rf "$scratch"' EXIT
-trap 'kill $(jobs -p) 2>/dev/null; exit 1' INT TERM
+trap 'kill $(jobs -p) 2>/dev/null; wait; exit 1' INT TERM
 commands=("$@")
 shown=0
 failed=0
 
-# tried NUMBER - leaves what the command of that number prints, and then its status.
+# tried NUMBER - leaves what the command of that number prints, and then its status. Where this is ended, so is the command.
 tried() {
-    timeout -k 10 600 bash -c "${commands[$1]}" >"$scratch/$1.out" 2>&1
+    timeout -k 10 600 bash -c "${commands[$1]}" >"$scratch/$1.out" 2>&1 &
+    trap "kill $!" TERM
+    wait $!
     echo $? >"$scratch/$1.ended"
     mv "$scratch/$1.ended" "$scratch/$1.status"
 }
