@@ -29,11 +29,11 @@ use Rattle.run.specs.declared.Answer.{Answer}
 use Rattle.run.specs.declared.Answer.the-variants.{Finished, Refused}
 use Rattle.run.specs.declared.Refusal.{Refusal}
 use Rattle.run.proofs.Answering.{passes, skipped, refused, finished, was-finished}
+use Rattle.run.specs.Call.{answered, refusedBy, Does}
+use Rattle.run.proofs.Calls.{works, turned-down}
 use Rattle.ledger.specs.Ledger.{View, viewOf, ledgerSize, posIn, blocksIn, totalIn, bitIn, markIn, inOrder}
 use Rattle.closing.specs.Closing.{Ordered, lowOf, highOf, settledAt, digitsAt, closeBy, closeCall}
 use Rattle.closing.proofs.TopDigits.{negative-none, sub-pos, sub-exact}
-use Rattle.run.specs.Call.{answered, refusedBy, Does}
-use Rattle.run.proofs.Calls.{works, turned-down}
 
 -- ---- what an ordered ledger says
 

@@ -10,11 +10,11 @@ use Rattle.series.specs.declared.Series.{Series}
 use Rattle.series.specs.declared.Series.the-variants.{Bellard, Check}
 use Rattle.interval.specs.Interval.{Rule, isCharged}
 use Rattle.run.specs.Run.{limitsOf, inRange}
+use Rattle.run.specs.Call.{answered, bytesLeft}
 use Rattle.ledger.specs.Ledger.{View, viewOf, totalIn, totalOf}
 use Rattle.ledger.specs.Plain.{Plain, plainView, encode, fullPlain}
 use Rattle.ledger.proofs.Image.{Good, view-encode, total-encode}
 use Rattle.closing.specs.Closing.{closeBy, closeCall}
-use Rattle.run.specs.Call.{answered, bytesLeft}
 
 module _ (F : Formula) (s : Plain) (good : Good (limitsOf F) s) (out : List ℕ) where
   -- by whatever rule terms are charged

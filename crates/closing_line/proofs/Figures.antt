@@ -16,6 +16,7 @@ use Rattle.interval.specs.Interval.{isCharged, charges, low, high}
 use Rattle.interval.specs.Digits.{settledUpTo, settled, hexDigit, hexText, lowDigits}
 use Rattle.run.specs.Refusal.{refusal, answer}
 use Rattle.run.specs.Run.{limitsOf, isTicket}
+use Rattle.run.specs.Call.{answered, bytesLeft, refusedBy, allLeft}
 use Rattle.ledger.specs.Ledger.{totalOf, posIn}
 use Rattle.ledger.specs.Plain.{plainView, fullPlain, fullLedger}
 use Rattle.ledger.proofs.Image.{pos-encode}
@@ -25,7 +26,6 @@ use Rattle.closing.proofs.Encoded.{good-full, answer-encoded, bytes-encoded}
 use Rattle.closing_line.specs.Decimal.{decimalWithin}
 use Rattle.closing_line.specs.Line.{finishedLine, refusedLine, lineOf, closingLine}
 use Rattle.closing_line.specs.Figures.{refusedOne, Figures}
-use Rattle.run.specs.Call.{answered, bytesLeft, refusedBy, allLeft}
 
 full-line : (sums : ℕ → ℕ) → ((row : ℕ) → sums row < modulus) → (total : ℕ) → totalOf (limitsOf bellard) sums ≡ total
     → closingLine bellard (fullLedger (limitsOf bellard) sums)

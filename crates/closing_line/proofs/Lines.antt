@@ -14,11 +14,11 @@ use Rattle.run.specs.declared.Answer.{Answer}
 use Rattle.run.specs.declared.Answer.the-variants.{Finished, Refused}
 use Rattle.run.specs.declared.Refusal.{Refusal}
 use Rattle.run.proofs.Answering.{in-table}
+use Rattle.run.specs.Call.{bytesLeft, answered}
 use Rattle.ledger.specs.Ledger.{posIn, totalIn}
 use Rattle.closing.specs.Closing.{closeCall}
 use Rattle.closing.proofs.Closing.{settled-few, tested, was-closed}
 use Rattle.closing_line.specs.Line.{finishedLine, refusedLine, lineOf, closingLine}
-use Rattle.run.specs.Call.{bytesLeft, answered}
 
 numbered-line : (n p : ℕ) (digits : List ℕ) → 0 < n → refusedLine n ≡ lineOf (negℤ (pos n)) p digits
 unfolding lineOf

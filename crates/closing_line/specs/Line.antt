@@ -5,10 +5,10 @@ use Prim.Native.Nat.{ℕ, suc, _+_}
 use lib.IntN.{ℤ, pos, negsuc}
 use lib.ListN.{length, take, replicate}
 use Rattle.series.specs.Series.{Formula}
+use Rattle.run.specs.Call.{answered, bytesLeft}
 use Rattle.ledger.specs.Ledger.{posIn}
 use Rattle.closing.specs.Closing.{closeCall}
 use Rattle.closing_line.specs.Decimal.{decimal}
-use Rattle.run.specs.Call.{answered, bytesLeft}
 
 -- ---- characters
 

@@ -22,9 +22,9 @@ use Rattle.run.specs.declared.Answer.{Answer}
 use Rattle.run.specs.declared.Answer.the-variants.{Finished, Refused}
 use Rattle.run.proofs.Range.{range-of, ticket-row, ticket-block}
 use Rattle.run.proofs.Answering.{passes}
-use Rattle.ledger.specs.Ledger.{View, viewOf, ledgerSize, markAt, posIn, blocksIn, bitIn, markIn, inOrder, enter}
 use Rattle.run.specs.Call.{Call, refusedBy, answered, Does}
 use Rattle.run.proofs.Calls.{refuses, finishes, was-worked, turned-down}
+use Rattle.ledger.specs.Ledger.{View, viewOf, ledgerSize, markAt, posIn, blocksIn, bitIn, markIn, inOrder, enter}
 use Rattle.ledger.specs.Calls.{ticketRefusal, postCall}
 
 -- ---- the bit of a ticket

@@ -10,11 +10,11 @@ use lib.ListN.{length}
 use Rattle.run.specs.Refusal.{refusal}
 use Rattle.run.specs.Run.{Limits}
 use Rattle.run.proofs.Answering.{negated, refused, finished, stays, kept, changed, not-refused, refused-by}
+use Rattle.run.specs.Call.{answered, refusedBy, allLeft}
 use Rattle.ledger.specs.Ledger.{viewOf}
 use Rattle.sheet.specs.Calls.{sheetRefusal, sheetPostCall}
 use Rattle.look.specs.Look.{lookRefusal, lookCall}
 use Rattle.look.specs.AsPosting.{AsPosting, LooksAsPosted}
-use Rattle.run.specs.Call.{answered, refusedBy, allLeft}
 
 module _ (lim : Limits) (ledger s total : List ℕ) where
   abbrev look-number : ℕ

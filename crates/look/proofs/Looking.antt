@@ -17,12 +17,12 @@ use Rattle.run.specs.declared.Refusal.{Refusal}
 use Rattle.run.specs.declared.Answer.{Answer}
 use Rattle.run.specs.declared.Answer.the-variants.{Finished, Refused}
 use Rattle.run.proofs.Answering.{refused, finished, was-finished, was-number}
+use Rattle.run.specs.Call.{answered, bytesLeft, refusedBy, Does}
+use Rattle.run.proofs.Calls.{works, turned-down}
 use Rattle.ledger.specs.Ledger.{viewOf, totalIn}
 use Rattle.sheet.specs.Calls.{sheetPostCall, sheetRefusal}
 use Rattle.look.specs.Look.{unmarkedIn, lookRefusal, lookCall}
 use Rattle.look.proofs.AsPosting.{wrong-size, same-number}
-use Rattle.run.specs.Call.{answered, bytesLeft, refusedBy, Does}
-use Rattle.run.proofs.Calls.{works, turned-down}
 
 -- the post would be taken
 pub would-take : (lim : Limits) (ledger s : List ℕ) (a : Answer) (v : ℕ) → answerOf a ≡ answered (sheetPostCall lim ledger s) → a ≡ Finished v

@@ -18,6 +18,7 @@ use Rattle.series.specs.Series.{modulus}
 use Rattle.run.specs.Run.{Limits, isTicket}
 use Rattle.run.proofs.Range.{range-of, ticket-row}
 use Rattle.run.proofs.Answering.{not-refused, changed}
+use Rattle.run.specs.Call.{answered, bytesLeft, refusedBy, allLeft}
 use Rattle.ledger.specs.Ledger.{viewOf, ledgerSize, blocksIn, totalOf, totalIn}
 use Rattle.ledger.specs.Plain.{Plain, plainView, admit, encode, decode}
 use Rattle.ledger.proofs.RowSums.{total-adding}
@@ -33,7 +34,6 @@ use Rattle.sheet.proofs.Testing.{formed-length}
 use Rattle.look.specs.Look.{unmarkedOf, unmarkedIn}
 use Rattle.look.specs.Marks.{marksBelow}
 use Rattle.look.proofs.Counting.{all-less-marks, unmarked-all, by-bits}
-use Rattle.run.specs.Call.{answered, bytesLeft, refusedBy, allLeft}
 
 -- what is known of a sheet that is taken, and of the ledger that takes it
 pub record Taken (lim : Limits) (ledger b : List ℕ) : Type 0 where

@@ -8,10 +8,10 @@ use lib.ListN.{length}
 use Rattle.algebra.specs.Sum.{sum}
 use Rattle.words.specs.Bytes.{bytesOf}
 use Rattle.run.specs.Run.{Limits}
+use Rattle.run.specs.Call.{answered, bytesLeft}
 use Rattle.ledger.specs.Ledger.{View, totalIn}
 use Rattle.sheet.specs.Calls.{sheetPostCall}
 use Rattle.look.specs.Look.{unmarkedOf, unmarkedIn, lookCall}
-use Rattle.run.specs.Call.{answered, bytesLeft}
 
 -- What a look at the sheet s gives beside a post of s, with 16 bytes lent for the total.
 pub record AsPosting (lim : Limits) (ledger s total : List ℕ) : Type 0 where

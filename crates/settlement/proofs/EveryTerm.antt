@@ -22,12 +22,12 @@ use Rattle.interval.specs.Digits.{settled, lowDigits}
 use Rattle.interval.proofs.Digits.{at-most, settled-greatest}
 use Rattle.run.specs.Run.{limitsOf}
 use Rattle.run.proofs.Answering.{not-refused, finished, changed}
+use Rattle.run.specs.Call.{answered, allLeft, refusedBy}
 use Rattle.ledger.specs.Ledger.{View, viewOf, totalIn}
 use Rattle.closing.specs.Closing.{lowOf, highOf, settledAt, digitsAt, closeBy}
 use Rattle.closing.proofs.Closing.{low-in, settled-few, nine-alone}
 use Rattle.closing.proofs.TopDigits.{sub-pos, fewer-digits, length-low}
 use Rattle.settlement.specs.EveryTerm.{answerBefore, Keeps, NoWider}
-use Rattle.run.specs.Call.{answered, allLeft, refusedBy}
 
 -- no rule charges more than every term
 fewer-charges : (R : Rule) (F : Formula) (side : Side) (p K : ℕ) → charges R F side p K ≤ charges everyTerm F side p K

@@ -22,12 +22,12 @@ use Rattle.interval.specs.Interval.{Rule, isCharged, everyTerm, charges, low, h
 use Rattle.interval.specs.Digits.{settledUpTo, settled, hexDigit, hexText, lowDigits}
 use Rattle.run.specs.Refusal.{refusal, answer}
 use Rattle.run.specs.Run.{limitsOf, isTicket}
+use Rattle.run.specs.Call.{answered, bytesLeft, refusedBy, allLeft}
 use Rattle.ledger.specs.Ledger.{viewOf, totalOf, totalIn}
 use Rattle.ledger.specs.Plain.{Plain, plainView, fullPlain, fullLedger}
 use Rattle.closing.specs.Closing.{settledAt, digitsAt, closeBy}
 use Rattle.closing.proofs.Encoded.{good-full, answer-by, bytes-by}
 use Rattle.settlement.specs.Figures.{figures, figuresBefore, checkFigures, checkFiguresBefore, Holds, AllHold, inRow, Spreads}
-use Rattle.run.specs.Call.{answered, bytesLeft, refusedBy, allLeft}
 
 -- the closing of a full ledger is by the total of its sums
 module _ (f : Series) (sums : ℕ → ℕ) (fit : (row : ℕ) → sums row < modulus) where

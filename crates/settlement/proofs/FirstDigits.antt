@@ -23,6 +23,7 @@ use Rattle.interval.proofs.AnyRows.{any-rows}
 use Rattle.run.specs.Run.{limitsOf}
 use Rattle.run.proofs.Positions.{position}
 use Rattle.run.proofs.Range.{range-of}
+use Rattle.run.specs.Call.{answered, bytesLeft}
 use Rattle.ledger.specs.Ledger.{fresh}
 use Rattle.sheet.specs.Posts.{postsBytes}
 use Rattle.closing.specs.Closing.{lowOf, highOf, settledAt, digitsAt, closeCall}
@@ -31,7 +32,6 @@ use Rattle.settlement.specs.Figures.{firstDigits, FirstDigits}
 use Rattle.settlement.specs.Runs.{Asked}
 use Rattle.settlement.proofs.Partition.{all-tickets}
 use Rattle.settlement.proofs.Runs.{every-formula, asked}
-use Rattle.run.specs.Call.{answered, bytesLeft}
 
 module _ (F : Formula) (premises : Asked F) (p d : ℕ) (digits : List ℕ) (some : 0 < d)
     (count-is : settledAt isCharged F p (sizesSum F p (termCount F p)) ≡ d)

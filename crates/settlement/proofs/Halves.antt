@@ -23,8 +23,8 @@ use Rattle.run.specs.Run.{limitsOf, inRange, isTicket, bound}
 use Rattle.run.proofs.Answering.{not-refused}
 use Rattle.run.proofs.Calls.{leaves, finishes}
 use Rattle.run.proofs.Range.{range-of, ticket-block}
-use Rattle.ticket.specs.Parts.{cut, partFirst, partEnd, partCount, partSum, partSquarings}
 use Rattle.run.specs.Call.{refusedBy, answered, allLeft, bytesLeft}
+use Rattle.ticket.specs.Parts.{cut, partFirst, partEnd, partCount, partSum, partSquarings}
 use Rattle.ticket.specs.Work.{bothSized, testCall, workCall}
 use Rattle.ticket.specs.declared.Part.{Part}
 use Rattle.ticket.specs.declared.Part.the-variants.{Whole, Lower, Upper}

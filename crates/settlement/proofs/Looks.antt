@@ -18,6 +18,7 @@ use Rattle.interval.specs.Interval.{isCharged}
 use Rattle.run.specs.Refusal.{refusal, answer}
 use Rattle.run.specs.Run.{Limits, limitsOf, inRange, isTicket}
 use Rattle.run.proofs.Answering.{negated, refused-by}
+use Rattle.run.specs.Call.{answered, bytesLeft, refusedBy, allLeft}
 use Rattle.ledger.specs.Ledger.{View, totalOf, totalIn, fresh}
 use Rattle.ledger.specs.Plain.{Plain, plainView, encode, opened, admit, including, adding}
 use Rattle.ledger.proofs.Image.{Good, view-encode, total-encode, fresh-encode}
@@ -32,7 +33,6 @@ use Rattle.look.proofs.AsPosting.{looks-as-posted}
 use Rattle.closing.specs.Closing.{settledAt, closeBy, closeCall}
 use Rattle.closing.proofs.Encoded.{answer-encoded}
 use Rattle.settlement.specs.Looks.{Step, posting, looking, Outcome, outcome, stepOutcome, stepBytes, plainOutcome, plainStep, stepsBytes, outcomes, plainOutcomes, postsAmong, Looks, someSteps, LooksTaken}
-use Rattle.run.specs.Call.{answered, bytesLeft, refusedBy, allLeft}
 
 -- ---- looks among posts
 

@@ -14,6 +14,7 @@ use Rattle.interval.specs.Interval.{isCharged}
 use Rattle.run.specs.Refusal.{answer}
 use Rattle.run.specs.Run.{Limits, limitsOf, inRange}
 use Rattle.run.proofs.Range.{ticket-row}
+use Rattle.run.specs.Call.{answered, bytesLeft}
 use Rattle.ledger.specs.Ledger.{View, viewOf, ledgerSize, totalOf, totalIn}
 use Rattle.ledger.specs.Plain.{Plain, Entry, plainView, opened, admit, including}
 use Rattle.ledger.proofs.RowSums.{total-adding}
@@ -23,7 +24,6 @@ use Rattle.sheet.proofs.Simulation.{Ready, good-opened, posts-good, post-ready,
 use Rattle.closing.specs.Closing.{closeBy, closeCall}
 use Rattle.closing.proofs.Encoded.{answer-encoded, bytes-encoded}
 use Rattle.settlement.specs.OneTotal.{OneTotal, oneOpened, oneView, oneAdmit, onePost, onePosts, oneAnswers, oneCloseAnswer, oneCloseBytes, SameAsOne, SameTotal, AsBefore}
-use Rattle.run.specs.Call.{answered, bytesLeft}
 
 -- ---- the ledger with row sums, seen as one with a total
 

@@ -22,6 +22,7 @@ use Rattle.run.specs.Refusal.{refusal, answer}
 use Rattle.run.specs.Run.{limitsOf, inRange}
 use Rattle.run.proofs.Positions.{position}
 use Rattle.run.proofs.Range.{range-of, is-ticket}
+use Rattle.run.specs.Call.{answered, bytesLeft, refusedBy, allLeft}
 use Rattle.ledger.specs.Ledger.{fresh, ledgerSize, totalOf}
 use Rattle.ledger.specs.Plain.{Plain, opened, plainView, encode}
 use Rattle.ledger.specs.Calls.{openCall}
@@ -33,7 +34,6 @@ use Rattle.closing.proofs.Encoded.{answer-encoded, bytes-encoded}
 use Rattle.settlement.specs.Settlement.{allSums, Closed, Settled, Demand3}
 use Rattle.settlement.proofs.Filling.{filled-all, filled-rows, filled-total, kept-posts, kept-opened}
 use Rattle.settlement.proofs.Partition.{all-tickets}
-use Rattle.run.specs.Call.{answered, bytesLeft, refusedBy, allLeft}
 
 module _ (F : Formula) (fits : F .last < 2 ^ 64) (above : Positive F) (p C : ℕ) (range : inRange (limitsOf F) p C ≡ true)
     (rest : RestBelowUnit isCharged F p (termCount F p)) where

@@ -9,9 +9,9 @@ use lib.Signed.{_≤ℤ_}
 use Rattle.series.specs.Series.{Formula, Side, termCount}
 use Rattle.interval.specs.Interval.{isCharged, everyTerm, charges}
 use Rattle.run.specs.Run.{limitsOf}
+use Rattle.run.specs.Call.{answered, bytesLeft}
 use Rattle.ledger.specs.Ledger.{viewOf, totalIn}
 use Rattle.closing.specs.Closing.{lowOf, highOf, closeBy, closeCall}
-use Rattle.run.specs.Call.{answered, bytesLeft}
 
 -- what closing a ledger's bytes answered, and left, while every term was charged
 abbrev pub answerBefore : Formula → List ℕ → List ℕ → ℤ

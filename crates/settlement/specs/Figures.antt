@@ -12,12 +12,12 @@ use Rattle.series.specs.Bellard.{bellard}
 use Rattle.series.specs.Check.{check}
 use Rattle.interval.specs.Interval.{isCharged, charges}
 use Rattle.run.specs.Run.{limitsOf}
+use Rattle.run.specs.Call.{answered, bytesLeft}
 use Rattle.ledger.specs.Ledger.{totalOf}
 use Rattle.ledger.specs.Plain.{fullLedger}
 use Rattle.closing.specs.Closing.{closeCall}
 use Rattle.settlement.specs.Settlement.{ClosesWith}
 use Rattle.settlement.specs.EveryTerm.{answerBefore, bytesBefore}
-use Rattle.run.specs.Call.{answered, bytesLeft}
 
 -- A figure, with what the document gives for it.
 pub data Figure : Type 0 where

@@ -11,8 +11,8 @@ use Rattle.series.specs.Bellard.{bellard}
 use Rattle.series.specs.Check.{check}
 use Rattle.series.specs.Halves.{byHalves}
 use Rattle.run.specs.Run.{limitsOf, inRange, isTicket}
-use Rattle.ticket.specs.Parts.{cut, partFirst, partCount, partSum}
 use Rattle.run.specs.Call.{answered, bytesLeft}
+use Rattle.ticket.specs.Parts.{cut, partFirst, partCount, partSum}
 use Rattle.ticket.specs.Work.{workCall}
 use Rattle.ticket.specs.declared.Part.the-variants.{Whole, Lower, Upper}
 

@@ -12,6 +12,7 @@ use Rattle.series.specs.Series.{Formula}
 use Rattle.series.specs.Bellard.{bellard}
 use Rattle.run.specs.Refusal.{answer}
 use Rattle.run.specs.Run.{Limits, limitsOf, inRange}
+use Rattle.run.specs.Call.{bytesLeft, answered}
 use Rattle.ledger.specs.Ledger.{totalOf, fresh}
 use Rattle.ledger.specs.Plain.{Entry, Plain, plainView, opened}
 use Rattle.sheet.specs.Sheet.{sheetOf}
@@ -20,7 +21,6 @@ use Rattle.sheet.specs.Posts.{Post, sheet, postAnswer, postBytes, plainAnswer, 
 use Rattle.look.specs.Look.{unmarkedOf, lookRefusal, lookCall}
 use Rattle.look.specs.AsPosting.{LooksAsPosted, AllLessMarks}
 use Rattle.closing.specs.Closing.{closeCall}
-use Rattle.run.specs.Call.{bytesLeft, answered}
 
 -- The sheet is taken: then the look answers 0 exactly where closing the ledger that the post leaves is not refused with 8.
 abbrev pub ZeroWhereFull : Formula → Type 0

@@ -13,9 +13,9 @@ use Rattle.interval.specs.Exact.{MakesWhole, exactSum}
 use Rattle.interval.specs.Interval.{isCharged, LiesFrom, unitAt, Greatest, NoneSettled, OneOutcome}
 use Rattle.interval.specs.Digits.{lowDigits}
 use Rattle.run.specs.Run.{limitsOf, inRange, isTicket, ticketSum}
+use Rattle.run.specs.Call.{answered, bytesLeft}
 use Rattle.ledger.specs.Ledger.{fresh, ledgerSize, totalOf}
 use Rattle.ledger.specs.Plain.{Entry, opened, encode}
-use Rattle.run.specs.Call.{answered, bytesLeft}
 use Rattle.ledger.specs.Calls.{openCall}
 use Rattle.sheet.specs.Posts.{Post, postsBytes, postsAnswers, plainPosts, plainAnswers, occurrences, contains}
 use Rattle.closing.specs.Closing.{lowOf, highOf, closeCall}

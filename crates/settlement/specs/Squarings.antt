@@ -12,8 +12,8 @@ use Rattle.words.specs.Bytes.{valueOf}
 use Rattle.series.specs.Series.{Formula, rowCount, rowAt, termCount}
 use Rattle.series.specs.Squarings.{squarings, rangeSquarings, byLengths, Short}
 use Rattle.run.specs.Run.{limitsOf, inRange, isTicket}
-use Rattle.ticket.specs.Parts.{partFirst, partEnd, partCount, partSquarings}
 use Rattle.run.specs.Call.{answered, bytesLeft}
+use Rattle.ticket.specs.Parts.{partFirst, partEnd, partCount, partSquarings}
 use Rattle.ticket.specs.Work.{workCall, quoteCall}
 use Rattle.ticket.specs.declared.Part.{Part}
 use Rattle.ticket.specs.declared.Part.the-variants.{Whole, Lower, Upper}

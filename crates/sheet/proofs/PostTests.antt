@@ -19,6 +19,8 @@ use Rattle.run.specs.declared.Answer.{Answer}
 use Rattle.run.specs.declared.Answer.the-variants.{Finished, Refused}
 use Rattle.run.proofs.Range.{range-of, ticket-row, ticket-block, is-ticket}
 use Rattle.run.proofs.Answering.{passes, skipped, refused-first, refused, finished, was-finished, was-number}
+use Rattle.run.specs.Call.{answered, refusedBy, Does}
+use Rattle.run.proofs.Calls.{finishes, was-worked, turned-down}
 use Rattle.ledger.specs.Ledger.{viewOf, ledgerSize, posIn, blocksIn, markIn, inOrder}
 use Rattle.ledger.specs.Plain.{Entry}
 use Rattle.ledger.proofs.Posting.{mark-is-bit}
@@ -27,8 +29,6 @@ use Rattle.sheet.specs.Tests.{byteTests, unset, Enterable}
 use Rattle.sheet.specs.Calls.{enterEntry, sheetRefusal, sheetPostCall}
 use Rattle.sheet.proofs.Simulation.{every-and, formed, sheet-taken}
 use Rattle.sheet.proofs.Testing.{formed-length}
-use Rattle.run.specs.Call.{answered, refusedBy, Does}
-use Rattle.run.proofs.Calls.{finishes, was-worked, turned-down}
 
 -- two tests that agree on what passes a third
 every-same : (f g h : Entry → Bool) → ((t : Entry) → h t ≡ true → f t ≡ g t) → (ts : List Entry) → every h ts ≡ true → every f ts ≡ every g ts

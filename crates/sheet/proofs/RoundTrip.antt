@@ -23,6 +23,7 @@ use Rattle.run.specs.Run.{Limits, limitsOf, inRange, isTicket, ticketSum}
 use Rattle.run.proofs.Answering as answering
 use Rattle.run.proofs.Answering.{passes}
 use Rattle.run.proofs.Range.{range-of, ticket-row, ticket-block}
+use Rattle.run.specs.Call.{answered, bytesLeft, refusedBy, allLeft}
 use Rattle.ledger.specs.Ledger.{View, viewOf}
 use Rattle.ledger.specs.Plain.{Entry}
 use Rattle.sheet.specs.Sheet.{sheetLength, sheetMost, listMost, sheetPos, sheetBlocks, sheetCount, entries, every, allTickets, key, ascending, wellFormed, contentsOf, bodiesOf, sheetOf, listOf, listed}
@@ -31,7 +32,6 @@ use Rattle.sheet.specs.RoundTrip.{Fits, ReadsBack, WrittenReadsBack, Acc
 use Rattle.sheet.proofs.Simulation.{formed, sheet-taken}
 use Rattle.sheet.proofs.Many.{count-entries, count-listed}
 use Rattle.sheet.proofs.Sheets.{Fitting, pos-read, blocks-read, count-read, entries-read, sheet-again, length-contents}
-use Rattle.run.specs.Call.{answered, bytesLeft, refusedBy, allLeft}
 
 -- ---- what the writer has tested
 

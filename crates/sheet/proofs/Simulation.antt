@@ -17,9 +17,9 @@ use Rattle.words.specs.Bytes.{field}
 use Rattle.run.specs.Refusal.{answer}
 use Rattle.run.specs.Run.{Limits, inRange, isTicket}
 use Rattle.run.proofs.Answering.{passes}
+use Rattle.run.specs.Call.{refusedBy, answered, allLeft}
 use Rattle.ledger.specs.Ledger.{View, viewOf, fresh}
 use Rattle.ledger.specs.Plain.{Plain, Entry, plainView, encode, admit, including, opened}
-use Rattle.run.specs.Call.{refusedBy, answered, allLeft}
 use Rattle.ledger.specs.Calls.{ticketRefusal, postCall}
 use Rattle.ledger.proofs.Posting.{ticket-taken}
 use Rattle.ledger.proofs.RowSums.{adding-fits}

@@ -14,6 +14,7 @@ use Rattle.series.specs.Series.{modulus}
 use Rattle.run.specs.Refusal.{refusal, answer}
 use Rattle.run.specs.Run.{Limits, isTicket}
 use Rattle.run.proofs.Answering as answering
+use Rattle.run.specs.Call.{answered, refusedBy, bytesLeft}
 use Rattle.ledger.specs.Ledger.{View, viewOf, ledgerSize}
 use Rattle.ledger.specs.Plain.{Plain, Entry, plainView, admit, encode, decode}
 use Rattle.ledger.specs.Calls.{ticketRefusal}
@@ -23,7 +24,6 @@ use Rattle.sheet.specs.Sheet.{sheetCount, sheetBlocks, sumIn, entriesFro
 use Rattle.sheet.specs.Calls.{sheetRefusal, sheetPostCall}
 use Rattle.sheet.specs.Posts.{ticket, sheet, postRefusal, postEntries, postBytes, plainAnswer, plainPost, postsBytes, postsAnswers, plainPosts, plainAnswers, singles, OneByOne}
 use Rattle.sheet.proofs.Simulation.{Ready, good-admit, post-ready, sheet-taken, step, posts-ledger, posts-answers}
-use Rattle.run.specs.Call.{answered, refusedBy, bytesLeft}
 
 -- a single post of a ticket of the run, with its p and C and a sum of 16 bytes, is refused only where the ticket is in the set
 pub not-refused : (lim : Limits) (s : Plain) (q D row block : ℕ) (x : List ℕ) → Good lim s → q ≡ s .p → D ≡ s .C → length x ≡ 16

@@ -19,12 +19,12 @@ use Rattle.run.specs.declared.Refusal.{Refusal}
 use Rattle.run.specs.declared.Answer.{Answer}
 use Rattle.run.specs.declared.Answer.the-variants.{Finished, Refused}
 use Rattle.run.proofs.Answering.{passes, skipped, refused, finished, was-finished, was-number}
+use Rattle.run.specs.Call.{answered, refusedBy, Does}
+use Rattle.run.proofs.Calls.{works, turned-down}
 use Rattle.ledger.specs.Plain.{Entry}
 use Rattle.sheet.specs.Sheet.{sheetMost, sheetPos, sheetBlocks, sheetCount, entriesFrom, entries, allTickets, ascending, wellFormed, listOf, bodiesOf}
 use Rattle.sheet.specs.Tests.{byteTests}
 use Rattle.sheet.specs.Calls.{over, readCall}
-use Rattle.run.specs.Call.{answered, refusedBy, Does}
-use Rattle.run.proofs.Calls.{works, turned-down}
 
 -- ---- the form
 

@@ -10,12 +10,12 @@ use lib.ListN.{length, replicate}
 use Rattle.words.specs.Bytes.{bytesOf, valueOf, AllBytes}
 use Rattle.run.specs.Refusal.{answer}
 use Rattle.run.specs.Run.{Limits}
+use Rattle.run.specs.Call.{answered, bytesLeft}
 use Rattle.ledger.specs.Ledger.{View}
 use Rattle.ledger.specs.Plain.{Entry, Plain, plainView, admit, isOf}
 use Rattle.ledger.specs.Calls.{ticketRefusal, postCall}
 use Rattle.sheet.specs.Sheet.{sheetPos, sheetBlocks, entries}
 use Rattle.sheet.specs.Calls.{sheetRefusal, sheetPostCall}
-use Rattle.run.specs.Call.{answered, bytesLeft}
 
 -- A post, by its arguments beside the ledger: p, C, row, block and the bytes of a sum; or the bytes of a sheet.
 pub data Post : Type 0 where

@@ -8,10 +8,10 @@ use lib.ListN.{length, take, drop}
 use Rattle.words.specs.Bytes.{AllBytes}
 use Rattle.series.specs.Series.{Formula, rowCount}
 use Rattle.run.specs.Run.{Limits, limitsOf, ticketSum}
+use Rattle.run.specs.Call.{answered, bytesLeft}
 use Rattle.ledger.specs.Plain.{Entry}
 use Rattle.sheet.specs.Sheet.{sheetLength, sheetPos, sheetBlocks, entries, bodiesOf, listOf, listed}
 use Rattle.sheet.specs.Calls.{over, writeCall, readCall, sheetPostCall}
-use Rattle.run.specs.Call.{answered, bytesLeft}
 
 -- rows fit a byte, and positions 8 bytes
 pub record Fits (F : Formula) : Type 0 where

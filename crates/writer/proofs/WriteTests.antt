@@ -17,6 +17,8 @@ use Rattle.run.specs.declared.Refusal.{Refusal}
 use Rattle.run.specs.declared.Answer.{Answer}
 use Rattle.run.specs.declared.Answer.the-variants.{Finished, Refused}
 use Rattle.run.proofs.Answering.{was-finished}
+use Rattle.run.specs.Call.{answered, refusedBy, Does}
+use Rattle.run.proofs.Calls.{works, turned-down}
 use Rattle.ledger.specs.Plain.{Entry}
 use Rattle.sheet.specs.Sheet.{listMost, allTickets, ascending, contentsOf, bodiesOf, sheetOf, listed}
 use Rattle.sheet.specs.Calls.{over, writeCall}
@@ -24,8 +26,6 @@ use Rattle.sheet.proofs.Many.{count-listed}
 use Rattle.sheet.proofs.Sheets.{length-contents}
 use Rattle.sheet.proofs.RoundTrip.{Taken, taken-of, length-sheet}
 use Rattle.sheet.proofs.Over.{write-next}
-use Rattle.run.specs.Call.{answered, refusedBy, Does}
-use Rattle.run.proofs.Calls.{works, turned-down}
 
 -- ---- the tests in their order
 

@@ -29,6 +29,7 @@ use Rattle.interval.specs.Digits.{settledUpTo, settled, hexDigit, hexText, lowD
 use Rattle.run.specs.Refusal.{_⇐_, refusal, answer}
 use Rattle.run.proofs.Answering as answering
 use Rattle.run.specs.Run.{inRange, isTicket, bound, ticketSum}
+use Rattle.run.specs.Call.{answered, bytesLeft, refusedBy, allLeft}
 use Rattle.ticket.specs.Parts.{cut, partFirst, partEnd, partSum, partSquarings}
 use Rattle.ticket.specs.Work.{isSized, bothSized, workCall, quoteCall}
 use Rattle.ticket.specs.declared.Part.{Part}
@@ -40,8 +41,8 @@ use Rattle.ledger.specs.Calls.{ticketRefusal, postCall}
 use Rattle.sheet.specs.Sheet.{sheetPos, sheetBlocks, sheetCount, rowIn, blockIn, sumIn, entriesFrom, entries, every, ascending, wellFormed, contentsOf, bodiesOf, sheetOf}
 use Rattle.sheet.specs.Calls.{sheetRefusal, sheetPostCall}
 use Rattle.sheet.specs.Posts.{Post, ticket, postBytes, postsBytes, postRefusal, postEntries, plainPost, plainPosts}
-use Rattle.look.specs.Look.{unmarkedOf, unmarkedIn, lookRefusal, lookCall}
 use Rattle.sheet.proofs.Simulation.{good-opened, posts-good}
+use Rattle.look.specs.Look.{unmarkedOf, unmarkedIn, lookRefusal, lookCall}
 use Rattle.closing.specs.Closing.{settledAt, digitsAt, closeBy, closeCall}
 use Rattle.closing.proofs.Closing.{nine-alone}
 use Rattle.closing.proofs.Encoded.{good-full, answer-by}
@@ -56,7 +57,6 @@ use Rattle.settlement.proofs.Squarings.{squaring-figures-hold}
 use Rattle.settlement.proofs.Filler.{filled-exists}
 use Rattle.settlement.proofs.FirstDigits.{closes-with, first-digits}
 use Rattle.wrong_engines.specs.WrongEngines.{lim, AnswersAs, LeavesAs, ClosesAs, byRule, aboveZero, everyAdded, everySubtracted, sameDigits, WorksAs, oneSum, cutInBoth, cutInNeither, ownSigns, Way, byWorking, byQuoting, CountsAs, countedBy, rightOf, topBitToo, ofWholeE, inOneWord, ofWhole, RemainAs, TotalsAs, unmarkedNow, totalNow, LooksUntested, PostsAs, doesNothing, leftBy, fillEntry, fillsFirst, alwaysNine, nineUnseen, alwaysEight, madeUp, oneLess, byTotal, withoutRow, withoutCarry, wrongSize, wordBound, towardZero, settledTowardZero, Met, ShutOut}
-use Rattle.run.specs.Call.{answered, bytesLeft, refusedBy, allLeft}
 
 -- 6A8885A308D313198A2E03707344A, the digits from position 5 on that a run settles
 abbrev fifthDigits : List ℕ

@@ -7,11 +7,15 @@ use native.Mathlib.Omega.{arith}
 use borrow.Author.Needs.{needs}
 use denote.Ref.{now}
 use Rattle.words.specs.Bytes.{AllBytes}
+use Rattle.words.proofs.get.Reads as get-reads
 use Rattle.series.specs.Names.{formulaOf}
 use Rattle.series.proofs.FewRows.{few-rows, near-positions}
+use Rattle.series.proofs.limits.row_count.Reads as row-count-reads
 use Rattle.run.specs.Run.{limitsOf}
+use Rattle.run.specs.Call.{bytesLeft}
 use Rattle.ledger.specs.Ledger.{blocksIn}
 use Rattle.sheet.specs.Calls.{sheetPostCall}
+use Rattle.sheet.proofs.contents.count.Reads as count-reads
 use Rattle.look.specs.Look.{unmarkedIn}
 use Rattle.look.proofs.Posted.{is-taken, all-tickets}
 use Rattle.look.proofs.remaining.Statement.{statement}
@@ -19,10 +23,6 @@ use Rattle.look.proofs.remaining.Tie as tie
 use Rattle.look.proofs.remaining.Reads as reads
 use Rattle.look.proofs.remaining.Lts as lts
 use Rattle.look.proofs.marks.Reads as marks-reads
-use Rattle.series.proofs.limits.row_count.Reads as row-count-reads
-use Rattle.sheet.proofs.contents.count.Reads as count-reads
-use Rattle.words.proofs.get.Reads as get-reads
-use Rattle.run.specs.Call.{bytesLeft}
 
 -- what is known after the counting: the tickets by their kinds, and that there are few
 record Counted (r C e m rest : ℕ) : Type 0 where
