@@ -52,6 +52,23 @@ pub sum-next : (f : ℕ → ℕ) (first c : ℕ) → sum f first (c + 1) ≡ sum
 unfolding sum
 sum-next f first c = ap (sum f first) (add-one c)
 
+-- the same values, counted from 0
+pub sum-from : (f : ℕ → ℕ) (k c : ℕ) → sum (λ i. f (k + i)) 0 c ≡ sum f k c
+unfolding sum
+sum-from f k zero = refl
+sum-from f k (suc c) = ap₂ _+_ (sum-from f k c) (ap (λ (i : ℕ). f (k + i)) (zero-add c))
+
+-- every other value, from the first on and from the second on
+pub sum-pairs : (f : ℕ → ℕ) (k c : ℕ) → sum f k (2 * c) ≡ sum (λ i. f (k + 2 * i)) 0 c + sum (λ i. f (k + 1 + 2 * i)) 0 c
+unfolding sum
+sum-pairs f k zero = ap (sum f k) (mul-zero 2)
+sum-pairs f k (suc c) =
+    let two : 2 * suc c ≡ 2 * c + 1 + 1 = omega arith in
+    let before = sum-pairs f k c in
+    let one : f (k + 2 * c) ≡ f (k + 2 * (0 + c)) = ap f (omega arith) in
+    let other : f (k + (2 * c + 1)) ≡ f (k + 1 + 2 * (0 + c)) = ap f (omega arith) in
+    ap (sum f k) two ∙ sum-next f k (2 * c + 1) ∙ ap (λ (x : ℕ). x + f (k + (2 * c + 1))) (sum-next f k (2 * c)) ∙ omega (arith, before, one, other)
+
 -- the same of a total that is reduced at each turn, from a on
 pub total-next : (n : ℕ) (v : ℕ → ℕ) (a i t u : ℕ) → t ≡ (a + sum v 0 i) % n → u ≡ (t + v i) % n → u ≡ (a + sum v 0 (i + 1)) % n
 total-next n v a i t u et eu =

@@ -1,2 +1,3 @@
 pub mod Negated
 pub mod Reducing
+pub mod Standing

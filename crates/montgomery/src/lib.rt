@@ -5,6 +5,11 @@ ghost use Prim.Native.Nat.{ℕ, _+_, _*_, _-_, _/_, _%_, _^_, _≤_, _<_, min};
 ghost use Rattle.algebra.specs.Bits.{bitLength};
 ghost use Rattle.words.specs.Words.{joined};
 ghost use Rattle.montgomery.specs.Modulus.{Modulus, montgomery};
+ghost use Rattle.montgomery.specs.Standing.{Standing, PowerOf, QuotientOf};
+
+pub mod counted;
+
+use crate::counted::Counted;
 use words::Wide;
 
 // A plain residue: a number below the modulus.
@@ -12,18 +17,6 @@ pub struct Residue(pub u64);
 
 // A number below the modulus n that stands for the one that it is 2^64 times, modulo n.
 pub struct MontgomeryResidue(pub u64);
-
-// What finding a power gives: its residue in Montgomery form, and how many squarings were made.
-pub struct MontgomeryPower {
-    pub residue: MontgomeryResidue,
-    pub squarings: u64,
-}
-
-// The same with the plain residue.
-pub struct PlainPower {
-    pub residue: Residue,
-    pub squarings: u64,
-}
 
 // A quotient modulo 2^128, and how many squarings it took.
 pub struct Quotient {
@@ -93,38 +86,36 @@ pub fn start(n: u64) -> MontgomeryResidue
     double(MontgomeryResidue((u64::MAX - n + 1) % n), 1, n)
 }
 
-// Algorithm 5 from its line 5 on: 2^e in Montgomery form. `start` takes the top bit of e, and each bit below it
-// squares, and doubles where it is set. The squarings are counted as they are made.
-pub fn power(e: u64, n: u64, mu: u64) -> MontgomeryPower
-    requires { ⌜ (0 < e) × Modulus n mu ⌝ }
-    ensures { λ r. ⌜ (r .residue .0 ≡ montgomery n (2 ^ e)) × (r .squarings ≡ bitLength e - 1) ⌝ }
+// The turn of Algorithm 5 for bit i of e.
+pub fn turn(x: Counted, e: u64, i: u32, n: u64, mu: u64) -> Counted
+    requires { ⌜ Modulus n mu × Standing n e (i + 1) x ⌝ }
+    ensures { λ r. ⌜ Standing n e i r ⌝ }
 {
-    let mut x = start(n);
-    let mut squarings = 0;
-    let mut i: u32 = 63 - u64::leading_zeros(e);
-    while i > 0 {
-        i -= 1;
-        let bit = (e >> i) & 1;
-        x = double(square(x, n, mu), bit, n);
-        squarings += 1;
-    }
-    MontgomeryPower {
-        residue: x,
-        squarings,
-    }
+    let bit = (e >> i) & 1;
+    crate::counted::double(crate::counted::square(x, n, mu), bit, n)
 }
 
-// 2^e modulo n. The Montgomery form of 2^(e - 64) is 2^64 times it, which is the plain residue of 2^e:
-// the one place where a number goes from one struct to the other.
-pub fn residue_of_power(e: u64, n: u64, mu: u64) -> PlainPower
-    requires { ⌜ (64 < e) × Modulus n mu ⌝ }
-    ensures { λ r. ⌜ (r .residue .0 ≡ 2 ^ e % n) × (r .squarings ≡ bitLength (e - 64) - 1) ⌝ }
+// The place of the top bit of e.
+pub fn top(e: u64) -> u32
+    requires { ⌜ 0 < e ⌝ }
+    ensures { λ i. ⌜ i + 1 ≡ bitLength e ⌝ }
 {
-    let found = power(e - 64, n, mu);
-    PlainPower {
-        residue: Residue(found.residue.0),
-        squarings: found.squarings,
+    63 - u64::leading_zeros(e)
+}
+
+// Algorithm 5 from its line 5 on: 2^e in Montgomery form. `start` takes the top bit of e, and each bit below it
+// squares, and doubles where it is set.
+pub fn power(e: u64, n: u64, mu: u64) -> Counted
+    requires { ⌜ (0 < e) × Modulus n mu ⌝ }
+    ensures { λ r. ⌜ PowerOf n e r ⌝ }
+{
+    let mut x = crate::counted::start(n);
+    let mut i: u32 = top(e);
+    while i > 0 {
+        i -= 1;
+        x = turn(x, e, i, n, mu);
     }
+    x
 }
 
 // Algorithm 7: the whole part of t / n modulo 2^128, for each multiple t of 2^128 whose residue is r.
@@ -143,17 +134,33 @@ pub fn divide(r: Residue, n: u64, mu: u64) -> Wide
     }
 }
 
+// mu of an odd n: - 1 / n modulo 2^64.
+pub fn mu_of(n: u64) -> u64
+    requires { ⌜ (n % 2 ≡ 1) × (n < 2 ^ 63) ⌝ }
+    ensures { λ mu. ⌜ Modulus n mu ⌝ }
+{
+    std::num::wrapping_sub_u64(0, inverse(n))
+}
+
+// The whole part of 2^(64 + f) / n, modulo 2^128, where x stands for 2^f: its number is the plain residue of 2^(64 + f). This is the
+// one place where a number goes from one struct to the other.
+pub fn quotient_of(x: Counted, n: u64, mu: u64) -> Quotient
+    requires { ⌜ (x .residue .0 < n) × Modulus n mu ⌝ }
+    ensures { λ q. ⌜ QuotientOf n x q ⌝ }
+{
+    Quotient {
+        value: divide(Residue(x.residue.0), n, mu),
+        squarings: crate::counted::squarings(x),
+    }
+}
+
 // The whole part of 2^e / n, modulo 2^128, where 2^128 divides 2^e.
 pub fn quotient_of_power(e: u64, n: u64) -> Quotient
     requires { ⌜ (n % 2 ≡ 1) × (n < 2 ^ 63) × (128 ≤ e) ⌝ }
     ensures { λ q. ⌜ (joined (q .value .hi) (q .value .lo) ≡ 2 ^ e / n % 2 ^ 128) × (q .squarings ≡ bitLength (e - 64) - 1) ⌝ }
 {
-    let mu = std::num::wrapping_sub_u64(0, inverse(n));
-    let found = residue_of_power(e, n, mu);
-    Quotient {
-        value: divide(found.residue, n, mu),
-        squarings: found.squarings,
-    }
+    let mu = mu_of(n);
+    quotient_of(power(e - 64, n, mu), n, mu)
 }
 
 // The whole part of 2^e / n, modulo 2^128, by long division a bit at a time: for the few small e.

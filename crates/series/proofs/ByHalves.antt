@@ -14,8 +14,13 @@ use Rattle.algebra.specs.Sum.{sum}
 use Rattle.algebra.specs.Whole.{residue}
 use Rattle.algebra.proofs.Cong.{of-eq, of-%}
 use Rattle.series.specs.Series.{Formula, Row, modulus, isAdded, onSide, rise, fall, divisor, size, rowSum, rangeSum}
+use Rattle.series.specs.Results.{signedBy}
 use Rattle.series.specs.Halves.{signedSize, firstToLast, oneOrNone, byHalves, SameSum}
 use Rattle.series.proofs.RangeSums.{residue-of, empty, split}
+
+-- a number taken from 0
+pub negative : (v t : ℕ) → t < modulus → (t + v) % modulus ≡ 0 → t ≡ residue modulus (subℕ 0 v)
+negative v t h z = residue-of modulus 0 v t h (of-% modulus (v + t) 0 (ap (λ (n : ℕ). n % modulus) (add-comm v t) ∙ z))
 
 module _ (F : Formula) (p : ℕ) (r : Row) where
   -- ---- one term
@@ -40,21 +45,10 @@ module _ (F : Formula) (p : ℕ) (r : Row) where
       go true = residue-of modulus (0 + q) 0 q (size-lt (k + 0)) (of-eq refl)
       go false = ap (λ (n : ℕ). residue modulus (subℕ 0 n)) (sym (zero-add q))
 
-  -- from its size: as it is, or taken from 0
-  module _ (k count q : ℕ) (e : count ≡ 1) where
-    pub as-it-is : isAdded F r k ≡ true → q ≡ size F p r k → q ≡ rangeSum F p r k count
-    unfolding signedSize
-    as-it-is a q-is =
-        let t : q ≡ signedSize F p r k = q-is ∙ rw a refl in
-        t ∙ one k ∙ ap (rangeSum F p r k) (sym e)
-
-    pub negated : (t : ℕ) → isAdded F r k ≡ false → q ≡ size F p r k → t < modulus → (t + q) % modulus ≡ 0 → t ≡ rangeSum F p r k count
-    unfolding signedSize
-    negated t a q-is h z =
-        let u : t ≡ signedSize F p r k =
-        residue-of modulus 0 q t h (of-% modulus (q + t) 0 (ap (λ (n : ℕ). n % modulus) (add-comm q t) ∙ z))
-        ∙ ap (λ (n : ℕ). residue modulus (subℕ 0 n)) q-is ∙ rw a refl in
-        u ∙ one k ∙ ap (rangeSum F p r k) (sym e)
+  -- from its size with its sign
+  pub one-signed : (k v t : ℕ) → v ≡ size F p r k → t ≡ signedBy (isAdded F r k) v → t ≡ rangeSum F p r k 1
+  unfolding signedSize
+  one-signed k v t e s = s ∙ ap (signedBy (isAdded F r k)) e ∙ one k
 
   -- ---- first to last
 

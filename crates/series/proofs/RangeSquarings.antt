@@ -1,6 +1,6 @@
 -- The squarings of a range of terms, one term at a time: none takes more than 62, and a loop that adds modulo 2 ^ 128 comes to their number.
 -- Assumes nothing.
-use mathlib.Core.Path.{_≡_, refl, sym, ap, _∙_}
+use mathlib.Core.Path.{_≡_, refl, sym, ap, ap₂, _∙_}
 use mathlib.Core.Bool.{Bool, true, false, cond}
 use Prim.Native.Nat.{ℕ, _+_, _*_, _-_, _/_, _%_, _^_, _≤_, _<_}
 use native.Mathlib.Nat.{add-zero, zero-add, le-trans, lt-trans, mod-eq-of-lt}
@@ -11,7 +11,7 @@ use Rattle.algebra.specs.Bits.{bitLength}
 use Rattle.algebra.specs.Sum.{sum}
 use Rattle.algebra.proofs.Bits.{length-below}
 use Rattle.algebra.proofs.Cong.{rem, plus, to-%}
-use Rattle.algebra.proofs.Sums.{sum-le, sum-same, sum-split, sum-none, sum-next, range-next}
+use Rattle.algebra.proofs.Sums.{sum-le, sum-same, sum-split, sum-none, sum-next}
 use Rattle.series.specs.Series.{Formula, Row, modulus, rise, fall}
 use Rattle.series.specs.Squarings.{squarings, rangeSquarings, Short}
 
@@ -41,11 +41,6 @@ module _ (F : Formula) (p : ℕ) (r : Row) (first : ℕ) where
   unfolding rangeSquarings
   none-yet count e = sym (ap (λ (n : ℕ). n % modulus) (ap (sum (squarings F p r) first) e ∙ sum-none (squarings F p r) first))
 
-  pub one-more : (k s t q : ℕ) → first ≤ k → s ≡ rangeSquarings F p r first (k - first) % modulus → q ≡ squarings F p r k
-      → t ≡ (s + q) % modulus → t ≡ rangeSquarings F p r first (k + 1 - first) % modulus
-  unfolding rangeSquarings
-  one-more = range-next modulus (squarings F p r) first
-
   -- one term, or none
   pub one-alone : (count q : ℕ) → count ≡ 1 → q < 2 ^ 64 → q ≡ squarings F p r first → q ≡ rangeSquarings F p r first count % modulus
   unfolding rangeSquarings
@@ -60,6 +55,15 @@ module _ (F : Formula) (p : ℕ) (r : Row) (first : ℕ) where
   both c d =
       to-% (plus (rem modulus (sum (squarings F p r) first c)) (rem modulus (sum (squarings F p r) (first + c) d)))
       ∙ ap (λ (n : ℕ). n % modulus) (sym (sum-split (squarings F p r) first c d))
+
+  -- the terms from k on, after those from `first` up to it
+  pub and-counts : (k d s q t : ℕ) → first ≤ k → s ≡ rangeSquarings F p r first (k - first) % modulus → q ≡ rangeSquarings F p r k d % modulus
+      → t ≡ (s + q) % modulus → t ≡ rangeSquarings F p r first (k + d - first) % modulus
+  and-counts k d s q t l is q-is e =
+      let from : first + (k - first) ≡ k = omega arith in
+      let all : k - first + d ≡ k + d - first = omega arith in
+      e ∙ ap₂ (λ (x y : ℕ). (x + y) % modulus) is (q-is ∙ ap (λ (n : ℕ). rangeSquarings F p r n d % modulus) (sym from)) ∙ both (k - first) d
+      ∙ ap (λ (n : ℕ). rangeSquarings F p r first n % modulus) all
 
   pub halved-count : (count : ℕ)
       → (rangeSquarings F p r first (count / 2) % modulus + rangeSquarings F p r (first + count / 2) (count - count / 2) % modulus) % modulus

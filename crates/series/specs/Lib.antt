@@ -5,3 +5,6 @@ pub mod Names
 pub mod Fitting
 pub mod Halves
 pub mod Squarings
+pub mod Results
+pub mod Groups
+pub mod Store

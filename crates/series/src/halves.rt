@@ -1,66 +1,52 @@
 // The signed sum of a range of terms by halves, with the squarings that it takes: the range is cut in two, and each part again, until a part
-// has one term or none.
+// has one term or none. The terms' sizes come from a store of one group.
 use crate::Series;
-use crate::terms::Numbers;
 use crate::terms::Worked;
 use words::Wide;
 ghost use mathlib.Core.Path.{_≡_};
-ghost use Prim.Native.Nat.{ℕ, _+_, _-_, _%_, _≤_, _<_};
+ghost use Prim.Native.Nat.{_+_, _-_, _≤_, _<_};
 ghost use Rattle.words.specs.Words.{joined};
-ghost use Rattle.series.specs.Series.{Formula, Row, modulus, rowCount, rowAt, termCount, rangeSum};
+ghost use Rattle.series.specs.Series.{rowCount, rowAt, termCount, rangeSum};
 ghost use Rattle.series.specs.Squarings.{rangeSquarings};
-ghost use Rattle.series.specs.Names.{formulaOf, numbersOf};
-ghost use Rattle.series.specs.Fitting.{Position, Workable};
+ghost use Rattle.series.specs.Names.{formulaOf};
+ghost use Rattle.series.specs.Fitting.{Position};
+ghost use Rattle.series.specs.Results.{SumOf};
+ghost use Rattle.series.specs.Store.{numbersIn, endIn, WorkableIn, StoreIn};
 
 // One term with its sign, or none, modulo 2^128.
-pub fn one_or_none(numbers: Numbers, first: u64, count: u64) -> Worked
-    requires { ⌜ Workable numbers (first + count) × (count < 2) ⌝ }
-    ensures { λ s. ⌜ ((F : Formula) (p : ℕ) (r : Row) → numbers ≡ numbersOf F p r → (joined (s .sum .hi) (s .sum .lo) ≡ rangeSum F p r first count) × (joined (s .squarings .hi) (s .squarings .lo) ≡ rangeSquarings F p r first count % modulus)) ⌝ }
+pub fn one_or_none(row: &[u64; 7], first: u64, count: u64, store: &mut [u64; 26]) -> Worked
+    requires { ⌜ WorkableIn (now row) × (first + count ≤ endIn (now row)) × (count < 2) × StoreIn (now row) (now store) ⌝ }
+    ensures { λ s. ⌜ StoreIn (now (row .entry)) (now (store .exit)) × SumOf (numbersIn (now (row .entry))) first count s ⌝ }
 {
-    let none = Wide { hi: 0, lo: 0 };
     if count == 0 {
+        let none = Wide { hi: 0, lo: 0 };
         return Worked {
             sum: none,
             squarings: none,
         };
     }
-    let q = crate::terms::size(numbers, first);
-    let value = q.value;
-    let squarings = Wide {
-        hi: 0,
-        lo: q.squarings,
-    };
-    if crate::terms::is_added(numbers, first) {
-        Worked {
-            sum: value,
-            squarings,
-        }
-    } else {
-        Worked {
-            sum: words::sub(none, value),
-            squarings,
-        }
-    }
+    let q = crate::store::size_of(row, first, store);
+    crate::terms::one_term(crate::store::numbers_in(row), first, q)
 }
 
 // The signed sum of the sizes of `count` terms from `first` on, and their squarings, both modulo 2^128. The lower half has count / 2 of them.
 // A half is cut again only if it has two terms or more, so that there is one call for each cut and none for each term.
-pub fn by_halves(numbers: Numbers, first: u64, count: u64) -> Worked
-    requires { ⌜ Workable numbers (first + count) ⌝ }
-    ensures { λ s. ⌜ ((F : Formula) (p : ℕ) (r : Row) → numbers ≡ numbersOf F p r → (joined (s .sum .hi) (s .sum .lo) ≡ rangeSum F p r first count) × (joined (s .squarings .hi) (s .squarings .lo) ≡ rangeSquarings F p r first count % modulus)) ⌝ }
+pub fn by_halves(row: &[u64; 7], first: u64, count: u64, store: &mut [u64; 26]) -> Worked
+    requires { ⌜ WorkableIn (now row) × (first + count ≤ endIn (now row)) × StoreIn (now row) (now store) ⌝ }
+    ensures { λ s. ⌜ StoreIn (now (row .entry)) (now (store .exit)) × SumOf (numbersIn (now (row .entry))) first count s ⌝ }
 {
     let half = count / 2;
     let rest = count - half;
     let cut = first + half;
     let lower = if half < 2 {
-        one_or_none(numbers, first, half)
+        one_or_none(row, first, half, store)
     } else {
-        by_halves(numbers, first, half)
+        by_halves(row, first, half, store)
     };
     let upper = if rest < 2 {
-        one_or_none(numbers, cut, rest)
+        one_or_none(row, cut, rest, store)
     } else {
-        by_halves(numbers, cut, rest)
+        by_halves(row, cut, rest, store)
     };
     Worked {
         sum: words::add(lower.sum, upper.sum),
@@ -74,5 +60,10 @@ pub fn range_sum(f: Series, p: u64, row: u64, first: u64, end: u64) -> Worked
     ensures { λ s. ⌜ (joined (s .sum .hi) (s .sum .lo) ≡ rangeSum (formulaOf f) p (rowAt (formulaOf f) row) first (end - first)) × (joined (s .squarings .hi) (s .squarings .lo) ≡ rangeSquarings (formulaOf f) p (rowAt (formulaOf f) row) first (end - first)) ⌝ }
 {
     let numbers = crate::terms::numbers_of(f, p, row);
-    by_halves(numbers, first, end - first)
+    let words = crate::store::words_of(numbers, end);
+    let mut store = [0u64; 26];
+    if first < end {
+        crate::store::fill(&words, first, &mut store);
+    }
+    by_halves(&words, first, end - first, &mut store)
 }

@@ -6,10 +6,10 @@ ghost use mathlib.Core.Path.{_≡_};
 ghost use Prim.Native.Nat.{ℕ, _+_, _-_, _≤_, _<_};
 ghost use Rattle.words.specs.Words.{joined};
 ghost use Rattle.series.specs.Series.{Formula, Row, rowCount, rowAt, isAdded, termCount, rangeSum};
-ghost use Rattle.series.specs.Series as definition;
-ghost use Rattle.series.specs.Squarings.{squarings, rangeSquarings};
+ghost use Rattle.series.specs.Squarings.{rangeSquarings};
 ghost use Rattle.series.specs.Names.{formulaOf, numbersOf};
 ghost use Rattle.series.specs.Fitting.{Position, Workable};
+ghost use Rattle.series.specs.Results.{SignedAs, SizeOf, SumOf};
 
 // What the terms of a row at a position are worked by: E of term k is rise - step * k, N is m * k + j; whether the even terms are added, and
 // the odd ones. All of it is known before the first term, so that no term asks for the formula.
@@ -92,7 +92,7 @@ const NOTHING: Quotient = Quotient {
 // The size of term k, and the squarings that it takes: none where E is below 128. Where E is below 0 the size is 0.
 pub fn size(numbers: Numbers, k: u64) -> Quotient
     requires { ⌜ Workable numbers (k + 1) ⌝ }
-    ensures { λ q. ⌜ ((F : Formula) (p : ℕ) (r : Row) → numbers ≡ numbersOf F p r → (joined (q .value .hi) (q .value .lo) ≡ definition.size F p r k) × (q .squarings ≡ squarings F p r k)) ⌝ }
+    ensures { λ q. ⌜ SizeOf numbers k q ⌝ }
 {
     let fall = numbers.step * k;
     if numbers.rise < fall {
@@ -110,6 +110,30 @@ pub fn size(numbers: Numbers, k: u64) -> Quotient
     }
 }
 
+// A number with the sign of term k, modulo 2^128.
+pub fn signed(numbers: Numbers, k: u64, value: Wide) -> Wide
+    ensures { λ s. ⌜ SignedAs numbers k (joined (value .hi) (value .lo)) (joined (s .hi) (s .lo)) ⌝ }
+{
+    if is_added(numbers, k) {
+        value
+    } else {
+        words::sub(Wide { hi: 0, lo: 0 }, value)
+    }
+}
+
+// A term with its sign, modulo 2^128, from its size and its squarings.
+pub fn one_term(numbers: Numbers, k: u64, q: Quotient) -> Worked
+    ensures { λ s. ⌜ (SizeOf numbers k q → SumOf numbers k 1 s) ⌝ }
+{
+    Worked {
+        sum: signed(numbers, k, q.value),
+        squarings: Wide {
+            hi: 0,
+            lo: q.squarings,
+        },
+    }
+}
+
 // The signed sum of the sizes of a row's terms from `first` up to, not including, `end`, modulo 2^128, and their squarings, which may be
 // more than a word holds.
 pub fn range_sum(f: Series, p: u64, row: u64, first: u64, end: u64) -> Worked
@@ -121,20 +145,11 @@ pub fn range_sum(f: Series, p: u64, row: u64, first: u64, end: u64) -> Worked
     let mut squarings = Wide { hi: 0, lo: 0 };
     let mut k = first;
     while k < end {
-        let q = size(numbers, k);
-        if is_added(numbers, k) {
-            sum = words::add(sum, q.value);
-        } else {
-            sum = words::sub(sum, q.value);
-        }
-        squarings = words::add(
-            squarings,
-            Wide {
-                hi: 0,
-                lo: q.squarings,
-            },
-        );
-        k += 1;
+        let next = crate::groups::next_part(numbers, k, end);
+        let worked = next.worked;
+        sum = words::add(sum, worked.sum);
+        squarings = words::add(squarings, worked.squarings);
+        k += next.count;
     }
     Worked { sum, squarings }
 }
