@@ -5,7 +5,7 @@
 # make test               the gate: proofs and tests, as .ci/run has them
 # make check              the tests in C alone; SEED= and COUNT= for other random cases, JOBS= tests at a time
 # make built              what check runs, built; -j for several at a time
-# make bench              times, beside plain C
+# make bench              times, beside C that works one term at a time and C that works several side by side
 # make published          Table 4 of document 001 at 10^7 and 10^8, by both formulas
 # make published-long     the same at 10^9 to 10^11, in hours; LONG= for other positions, PROCESSES= at a time, CHECK=1 for
 #                         check runs in place of Bellard's
@@ -72,7 +72,7 @@ COMMANDS = 'bash tests/header.sh build' 'bash tests/exports.sh crates include/bb
 	'build/test_reference' 'build/test_check_reference' \
 	'bash tests/mutants/run.sh build/mutants $(TESTS)' \
 	'bash tests/mutants/libraries.sh build/mutants $(STANDIN) $(SYMBOLS)' 'bash tests/symbols.sh $(ENGINE) $(SYMBOLS)' \
-	'bash tests/branches.sh $(ENGINE)' 'bash tests/sources.sh crates montgomery::power montgomery::double' \
+	'bash tests/branches.sh $(ENGINE) $(call OF_PROVED,3 24)' 'bash tests/sources.sh crates' \
 	$(foreach t,$(TESTS),'$(OUT)/test_$(t) $(SEED) $(COUNT)') \
 	'bash tests/examples.sh $(OUT)/minimal $(OUT)/acceptance' \
 	'$(OUT)/published 1000000' '$(OUT)/published overlap 1000000' \
@@ -230,8 +230,25 @@ $(OUT)/published: tests/published.c $(HEADERS) $(ENGINE)
 	@mkdir -p $(@D)
 	$(CC) $(PROGRAM_FLAGS) $< $(ENGINE) $(LDFLAGS) -o $@
 
-$(OUT)/bench: bench/bench.c bench/plain.c $(HEADERS) $(ENGINE)
+# The C that works terms side by side: an object for each compiler that is there and each number of lanes, and the tuned
+# form with eight. The redirection is for make, which would otherwise look for a program of the name `command`.
+COMPILERS := $(foreach compiler,gcc clang,$(if $(shell command -v $(compiler) 2>/dev/null),$(compiler)))
+SIDE_BY_SIDE = $(foreach compiler,$(COMPILERS),$(patsubst %,build/bench/$(compiler)-%.o,4 6 8 tuned))
+# The compiler's call for an object COMPILER-WAY.o, with its number of lanes and the names of its functions.
+LANED = $(firstword $(subst -, ,$(1))) $(WARN) -O3 -DLANES=$(2) -DWORK=$(subst -,_,$(1))_work \
+	-DCHECK_WORK=$(subst -,_,$(1))_check_work -DVERSION=$(subst -,_,$(1))_version -c $< -o $@
+
+build/bench/%-tuned.o: bench/tuned.c bench/lanes.c $(HEADERS)
 	@mkdir -p $(@D)
-	$(CC) $(WARN) -pthread $(INCLUDE) -O3 bench/bench.c bench/plain.c $(ENGINE) $(LDFLAGS) -o $@
+	$(call LANED,$*-tuned,8)
+
+build/bench/%.o: bench/lanes.c $(HEADERS)
+	@mkdir -p $(@D)
+	$(call LANED,$*,$(lastword $(subst -, ,$*)))
+
+$(OUT)/bench: bench/bench.c bench/plain.c $(SIDE_BY_SIDE) $(HEADERS) $(ENGINE)
+	@mkdir -p $(@D)
+	$(CC) $(WARN) -pthread $(INCLUDE) -O3 $(COMPILERS:%=-DWITH_%) bench/bench.c bench/plain.c $(SIDE_BY_SIDE) $(ENGINE) \
+		$(LDFLAGS) -o $@
 
 .PRECIOUS: build/sanitized/%.o build/sanitized/check_%.o build/plain/%.o build/plain/check_%.o

@@ -76,6 +76,19 @@ static void every_row(void)
     }
 }
 
+/*
+ * Short ranges, on both sides of the terms at which the bit length of E - 64
+ * changes: ranges with eight neighbouring terms that go together, and without.
+ */
+static void short_ranges(void)
+{
+    for (int i = 0; i < 60; i++) {
+        uint64_t p = 200 + below(20000), c = 16 + below(241), row = below(ROWS);
+        for (uint64_t block = 0; block < c; block += 1 + below(3))
+            compare_ticket(p, c, row, block);
+    }
+}
+
 static void far_tickets(void)
 {
     for (uint64_t row = 0; row < ROWS; row++) {
@@ -161,6 +174,7 @@ void try_tickets(int slices, int64_t (*compare_case)(void))
     every_size();
     every_row();
     small_runs();
+    short_ranges();
     far_tickets();
     run_suite(&suite);
     require_met("1 2 4 1+2 1+4 2+4");

@@ -19,8 +19,8 @@ extern struct arguments {
 
 /*
  * Tries named cases with their answers, every combination of sizes of so many
- * slices, every block of small runs, tickets far on, every pair of refusals and
- * random cases. `compare` makes what calls it tests with the arguments `tried`,
+ * slices, every block of small runs, short ranges, tickets far on, every pair of
+ * refusals and random cases. `compare` makes what calls it tests with the arguments `tried`,
  * and gives the answer.
  */
 void try_tickets(int slices, int64_t (*compare)(void));

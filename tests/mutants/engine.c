@@ -154,15 +154,18 @@ static uint64_t doubled(uint64_t x, uint64_t bit, uint64_t n, doubling wrong)
     return less + wrapped * (shifted - less);
 }
 
-/* 2^e mod n for e of 128 or more, and the squarings made. */
-static uint64_t residue(uint64_t e, uint64_t n, uint64_t mu, uint64_t *squarings)
+/*
+ * 2^e mod n for e of 128 or more, and the squarings made. The bits are taken from the top one of `longest` - 64 on, which is e
+ * but in a wrong engine.
+ */
+static uint64_t residue(uint64_t e, uint64_t longest, uint64_t n, uint64_t mu, uint64_t *squarings)
 {
     const doubling wrong = {WRONG(95), WRONG(96), WRONG(97)};
     uint64_t x = WRONG(14) ? 2 % n : (uint64_t)(((u128)2 << 64) % n), made = 0;
     e -= 64;
     if (WRONG(276))
-        e = (uint32_t)e;
-    for (int i = 62 - __builtin_clzll(e); i >= 0; i--, made++)
+        e = (uint32_t)e, longest = e + 64;
+    for (int i = 62 - __builtin_clzll(longest - 64); i >= 0; i--, made++)
         x = doubled(montgomery_square(x, n, mu), e >> i >> wrong.place & 1, n, wrong);
     *squarings = made;
     return x;
@@ -208,7 +211,7 @@ static uint64_t squarings_of(int64_t e, uint64_t made)
 /* The size of term k as a sum, and its squarings. */
 static worked term(const formula *f, uint64_t p, uint64_t row, uint64_t k)
 {
-    uint64_t n = f->row[row].m * k + f->row[row].j, made = 0;
+    uint64_t n = f->row[row].m * (k + (WRONG(279) && k % 8 == 3)) + f->row[row].j, made = 0;
     if (WRONG(61) || WRONG(164))
         n &= ((uint64_t)1 << (WRONG(61) ? 33 : 32)) - 1;
     int64_t e = exponent(f, p + WRONG(7), row, k) - (WRONG_IN_CHECK(128) ? 6 * (int64_t)k : 0);
@@ -216,8 +219,8 @@ static worked term(const formula *f, uint64_t p, uint64_t row, uint64_t k)
         return (worked){0, squarings_of(e, 0)};
     if (e < (WRONG(34) ? 127 : 128))
         return (worked){((u128)1 << e) / n, squarings_of(e, 0)};
-    uint64_t mu = inverse(n);
-    u128 q = exact_quotient(residue((uint64_t)e, n, mu, &made), n, mu);
+    uint64_t mu = inverse(n), longest = (uint64_t)(WRONG(278) ? exponent(f, p, row, k - k % 8) : e);
+    u128 q = exact_quotient(residue((uint64_t)e, longest, n, mu, &made), n, mu);
     return (worked){q, squarings_of(e, made)};
 }
 
@@ -276,8 +279,10 @@ static u128 both(u128 lower, u128 upper)
 
 static worked ticket(const formula *f, uint64_t p, uint64_t c, uint64_t row, uint64_t block)
 {
-    const range terms = ticket_range(f, p, c, row, block);
+    range terms = ticket_range(f, p, c, row, block);
     worked all = {0, 0};
+    if (WRONG(277))
+        terms.end -= (terms.end - terms.first) % 8;
     for (uint64_t k = terms.first; k < terms.end; k++) {
         worked one = signed_term(&terms, k);
         all.sum += one.sum;
@@ -301,7 +306,7 @@ static worked by_halves(range terms, int cuts)
     if (terms.first >= terms.end || (WRONG(117) && cuts > 20))
         return (worked){0, 0};
     if (count == 1 || (WRONG(109) && count == 2))
-        return signed_term(&terms, terms.first);
+        return signed_term(&terms, terms.first + (WRONG(280) && terms.first % 8 == 0));
     range lower = terms, upper = terms;
     lower.end = upper.first = WRONG(111) ? terms.end - 1 : terms.first + count / 2;
     if (WRONG(110) && count % 2 == 1)

@@ -1,13 +1,11 @@
 #!/usr/bin/env bash
-# libraries.sh DIRECTORY STANDIN SYMBOL.. - shows that symbols.sh, state.sh, branches.sh and sources.sh can fail: libraries
-# that are wrong in one way each are made in DIRECTORY, the ones for symbols.sh from the stand-in, and wrong sources apart.
+# libraries.sh DIRECTORY STANDIN SYMBOL.. - shows that symbols.sh, state.sh and branches.sh can fail: libraries that are
+# wrong in one way each are made in DIRECTORY, the ones for symbols.sh from the stand-in.
 set -euo pipefail
 directory=$1
 standin=$2
 shift 2
 checks=0
-scratch=$(mktemp -d)
-trap 'rm -rf "$scratch"' EXIT
 
 # library NAME BASE CODE FLAG.. - BASE, which may be empty, with the code as one more object.
 library() {
@@ -52,22 +50,21 @@ power() {
 }
 shifts=$(power shifts 'x <<= e >> i & 1;' x)
 
-# branches STATUS CODE FLAG.. - branches.sh on a library of that code.
+# branches SAYING NUMBERS CODE FLAG.. - branches.sh with these numbers fails on a library of that code, behind `base`,
+# and says so; with an empty saying it passes.
+types='typedef unsigned long word; __extension__ typedef unsigned __int128 wide; word g(word);'
+base=
 branches() {
-    local wanted=$1 code=$2
-    shift 2
-    library branches '' "typedef unsigned long word; __extension__ typedef unsigned __int128 wide; word g(word); $code" "$@"
-    try "$wanted" tests/branches.sh "$directory/branches.a"
-}
-
-# sources CRATE OLD NEW - sources.sh fails on that crate's source with OLD, which it has, replaced. The copies are outside the
-# repository, in which every source has to be proved.
-sources() {
-    mkdir -p "$scratch"/{words,montgomery}/src
-    for crate in words montgomery; do cp "crates/$crate/src/lib.rt" "$scratch/$crate/src/"; done
-    try 0 tests/sources.sh "$scratch" montgomery::power montgomery::double
-    sed -i "s/$2/$3/" "$scratch/$1/src/lib.rt"
-    try 1 tests/sources.sh "$scratch" montgomery::power montgomery::double
+    local saying=$1 numbers=$2 code=$3 status=1
+    shift 3
+    if [ -z "$saying" ]; then status=0; fi
+    library branches "$base" "$types $code" "$@"
+    # shellcheck disable=SC2086 # each number is an argument
+    try "$status" tests/branches.sh "$directory/branches.a" $numbers
+    if ! grep -qF -- "$saying" "$directory/libraries.log"; then
+        echo "libraries: not '$saying', but: $(cat "$directory/libraries.log")" >&2
+        exit 1
+    fi
 }
 
 try 0 tests/symbols.sh "$standin" "$@"
@@ -92,19 +89,75 @@ ${CC:-gcc} -std=c99 -D_GNU_SOURCE -Iinclude -O2 -DBRANCH -c tests/mutants/engine
 rm -f "$directory/branch.a"
 ar qcs "$directory/branch.a" "$directory/engine.o"
 try 1 tests/branches.sh "$directory/branch.a"
-branches 0 "$shifts"
-branches 1 "$(power f 'return x;' x)"
-branches 1 "$shifts $(power f 'if (e >> i & 1) x <<= 1;' x)"
-branches 1 "$shifts $(power f 'if (x == n) break;' x)"
-branches 1 "$shifts $(power f 'x = g(x);' x)"
-branches 1 "$shifts $(power f 'if (__builtin_expect(e >> i & 1, 0)) { __asm__ volatile(""); x <<= 1; }' 'g(x)')" -O2
-branches 1 "$shifts $(power f 'static void *const to[] = {&&even, &&odd}; goto *to[e >> i & 1]; odd: x <<= 1; even:;' x)"
-branches 1 "$shifts"' __asm__("f: mov $63, %ecx\n1: mul %rax\nimul %r8, %rax\nmul %rdi\njmp 4f\n2: add %rax, %rax\n3: dec %ecx\n"
-    "jne 1b\nret\n.section .text.unlikely, \"ax\"\n4: bt %rcx, %r9\njc 2b\njmp 3b\n.text\n");'
-sources montgomery 'let wrapped = z >> 63' 'let wrapped = if y < z { 1 } else { 0 }'
-sources montgomery 'words::wrapping_sub(y, n)' 'std::num::wrapping_sub_u64(y, n)'
-sources montgomery 'x = double(square(x, n, mu), bit, n);' 'x = square(x, n, mu); if bit == 1 { x = double(x, 1, n); }'
-sources montgomery 'x = double(square(x, n, mu), bit, n);' 'x = square(x, n, mu);'
-sources words 'let below = (a < b) as u64' 'let below = (a < b \&\& b > 0) as u64'
-sources words 'fn wrapping_sub' 'fn wrapping_difference'
+
+# The loop of one term.
+jumps='2 conditional jumps, 0 calls'
+call='1 conditional jumps, 1 calls'
+branches '' '' "$shifts"
+branches 'no loop' '' "$(power f 'return x;' x)"
+branches "$jumps" '' "$shifts $(power f 'if (e >> i & 1) x <<= 1;' x)"
+branches "$jumps" '' "$shifts $(power f 'if (x == n) break;' x)"
+branches "$call" '' "$shifts $(power f 'x = g(x);' x)"
+branches "$call" '' "$shifts word h(word x) { return x + 1; } $(power f 'x = h(x);' x)"
+branches 'conditional jumps' '' \
+    "$shifts $(power f 'if (__builtin_expect(e >> i & 1, 0)) { __asm__ volatile(""); x <<= 1; }' 'g(x)')" -O2
+branches '1 calls or jumps' '' \
+    "$shifts $(power f 'static void *const to[] = {&&even, &&odd}; goto *to[e >> i & 1]; odd: x <<= 1; even:;' x)"
+branches '1 calls or jumps' '' "$shifts"' __asm__("f: mov $63, %ecx\n1: mul %rax\nimul %r8, %rax\nmul %rdi\njmp 4f\n"
+    "2: add %rax, %rax\n3: dec %ecx\njne 1b\nret\n"
+    ".section .text.unlikely, \"ax\"\n4: bt %rcx, %r9\njc 2b\njmp 3b\n.text\n");'
+
+# Loops around it, where the compiler did not put the power in the place of its call: they may branch, and call others
+# too. A call names the function, its section, a place in a section or nothing; what is called may call the power.
+# terms NAME CALL - C of a function with a loop that multiplies, branches and calls.
+terms() {
+    printf '%s\n' "word $1(word a, word b, word c) { word s = 1; for (word k = 0; k < c; k++) {" \
+        "s = $2(a * s, b * s, c * s, k); if (s & 1) s += g(s); } return s; }"
+}
+apart=(-O1 -fno-inline)
+passes='word passes(word x, word n, word m, word e) { return shifts(x, n, m, e + 1); }'
+for kind in '' static; do
+    for flag in -fno-function-sections -ffunction-sections -foptimize-sibling-calls; do
+        branches '' 3 "$kind $shifts $(terms sum shifts)" "${apart[@]}" $flag
+        branches '' 3 "$kind $shifts $kind $passes $(terms sum passes)" "${apart[@]}" $flag
+    done
+    branches '' 3 "$kind $shifts $kind $(power other 'x >>= e >> i & 1;' x) word both(word x) { return shifts(x, x, x,
+        other(x, x, x, x)); } __attribute__((section(\".text.sum\"))) $(terms sum other)" "${apart[@]}"
+done
+# Where functions call each other, no loop is taken for one around itself.
+branches "$call" 3 "$shifts $(power f 'x = f(x, n, m, e);' x)" "${apart[@]}"
+branches "$call" 3 "$shifts word h(word x); $(power f 'x = h(x);' x)
+    word h(word x) { return x & 1 ? f(x, x, x, x) : x; }" "${apart[@]}"
+branches "$jumps" 3 "$shifts"' __asm__(".globl again\nagain: mul %rax\nimul %r8, %rax\nmul %rdi\nbt %rcx, %r9\njc 1f\n"
+    "add %rax, %rax\n1: dec %ecx\nje 2f\njmp again@PLT\n2: ret\n");' "${apart[@]}"
+# The function of one object is not taken for that of another.
+library power '' "$types $(power h 'x <<= e >> i & 1;' x)"
+base=$directory/power.a
+branches "$call" '' "static word h(word x) { return x + 1; } $(power f 'x = h(x);' x)" "${apart[@]}" -ffunction-sections
+base=
+
+# The loop of a group: its multiplications, one lane after the other.
+# group NAME STEP - C of a function with a loop of 64 turns of eight lanes, and that step.
+group() {
+    printf '%s\n' "word $1(word *x, word *n, word *m, word *e) { for (int i = 63; i >= 0; i--) {"
+    printf "{ const int j = %d; wide t = (wide)x[j] * x[j]; $2 \
+        x[j] = ((word)(t >> 64) - (word)((wide)((word)t * m[j]) * n[j] >> 64)) << (e[j] >> i & 1); }\n" {0..7}
+    echo "} return x[0]; }"
+}
+lanes=$(group lanes '')
+branches '' '3 24' "$shifts $lanes" "${apart[@]}"
+branches '' '3 24' "$shifts $lanes $(terms sum shifts)" "${apart[@]}"
+branches 'no loop with 24 multiplications' '3 24' "$shifts" "${apart[@]}"
+branches 'no loop with 3 multiplications' '3 24' "$lanes" "${apart[@]}"
+branches '32 multiplications, not one of: 3 24' '3 24' "$shifts $lanes $(group f 'e[j] *= n[j];')" "${apart[@]}"
+branches '24 multiplications: 9 conditional jumps' '3 24' \
+    "$shifts $lanes $(group f 'if (t & 1) x[j] = g(t);')" "${apart[@]}"
+branches '8 more by vector' '3 24' \
+    "$shifts $lanes $(group f '__asm__ volatile("pmuludq %%%%xmm1, %%%%xmm0" ::: "xmm0");')" "${apart[@]}"
+for product in 'pmuludq %xmm1, %xmm0' 'vpmuludq %ymm2, %ymm1, %ymm0' 'vpmullq %zmm2, %zmm1, %zmm0' \
+    'mulpd %xmm1, %xmm0' 'vpmadd52luq %zmm2, %zmm1, %zmm0' 'vfmadd231pd %ymm2, %ymm1, %ymm0' \
+    'pclmulqdq $0, %xmm1, %xmm0'; do
+    branches '3 more by vector' '3 24' \
+        "$shifts $lanes __asm__(\"f: $product\n $product\n $product\n dec %ecx\n jne f\n ret\n\");" "${apart[@]}"
+done
 echo "libraries: $checks checks"
