@@ -1,12 +1,12 @@
 /*
  * Times of the engine, in processor time, as minima of several repetitions.
- * Working is compared with the plain C of bench/plain.c, and with the engine's
- * own halves, ticket by ticket and turn by turn. Figures say nothing about
- * whether answers are right; the sums are compared all the same, so that equal
- * work is timed. The engine counts its squarings as it works, the plain C does
- * not. Last come the quotes at the last position, and the stack that a half
- * takes. Lines of check runs start with the word `check`; the calls that keep
- * books are timed by Bellard's.
+ * Working is compared with C of the same algorithms (bench/ways.h), one term at
+ * a time and several side by side, and with the engine's own halves, ticket by
+ * ticket and turn by turn. Figures say nothing about whether answers are right;
+ * the sums are compared all the same, so that equal work is timed. The engine
+ * counts its squarings as it works, the C does not. Last come the quotes at the
+ * last position, and the stack that a half takes. Lines of check runs start with
+ * the word `check`; the calls that keep books are timed by Bellard's.
  */
 #define _POSIX_C_SOURCE 200809L
 
@@ -20,15 +20,74 @@
 #include <time.h>
 
 #include "kinds.h"
-#include "plain.h"
 #include "program.h"
+#include "ways.h"
 
-enum { BLOCKS = 256, REPETITIONS = 15, LEDGERS = 64, QUOTES = 64, STACK = 1 << 20, UNTOUCHED = 0xA5 };
+enum { BLOCKS = 256, LEDGERS = 64, QUOTES = 64, MULTIPLICATIONS = 10000000, STACK = 1 << 20, UNTOUCHED = 0xA5 };
 
-/* Every `step`-th block of each row, so that a repetition takes some tenths of a second. */
+#if !defined WITH_gcc && !defined WITH_clang
+#error "bench/lanes.c is not compiled: neither gcc nor clang was found"
+#endif
+
+/* Ways of working a ticket: the engine, the engine's halves, and those in C, of which one chain is the first. */
+#define WAY_NAMED(compiler, way, name)                          \
+    {#compiler " " name, #compiler, compiler##_##way##_version, \
+     {compiler##_##way##_work, compiler##_##way##_check_work}},
+#define WAY(compiler, lanes) WAY_NAMED(compiler, lanes, #lanes " lanes")
 static const struct {
-    uint64_t p, first, step;
-} runs[] = {{1000000, 0, 1}, {10000000, 8, 16}, {100000000, 64, 128}};
+    const char *name, *compiler;
+    const char *(*version)(void);
+    ticket_call *work[KINDS];
+} in_c[] = {
+    {"one chain", NULL, NULL, {plain_work, plain_check_work}},
+#ifdef WITH_gcc
+    WAYS_OF(gcc)
+#endif
+#ifdef WITH_clang
+    WAYS_OF(clang)
+#endif
+#ifdef WITH_gcc
+    WAY_NAMED(gcc, tuned, "8 lanes")
+#endif
+#ifdef WITH_clang
+    WAY_NAMED(clang, tuned, "8 lanes")
+#endif
+};
+#if defined WITH_gcc && defined WITH_clang
+enum { COMPILERS = 2 };
+#else
+enum { COMPILERS = 1 };
+#endif
+enum {
+    ENGINE,
+    HALVES,
+    ONE_CHAIN,
+    SIDE_BY_SIDE,
+    TUNED = SIDE_BY_SIDE + COMPILERS * WAYS_OF_A_COMPILER,
+    WAYS = TUNED + COMPILERS
+};
+
+struct ticket {
+    uint64_t p, c, row, block;
+};
+
+/* Tickets of each row, every `step`-th block from `first` on, and how many of the ways and how often. */
+struct sample {
+    int kind;
+    uint64_t p, c, first, step;
+    int ways, repetitions;
+};
+
+/* Of a sample: the least times of its tickets, added up, and its squarings. */
+struct figures {
+    double times[WAYS], squarings;
+};
+
+/* What the table of kinds does not have: the step of E, and the last position in words. */
+static const struct {
+    uint64_t step;
+    const char *last;
+} extras[KINDS] = {{10, "2^60"}, {4, "2^59"}};
 
 static double seconds(void)
 {
@@ -42,83 +101,160 @@ static double least(double x, double y)
     return x < y ? x : y;
 }
 
-/* What the table of kinds does not have: the plain C, the step of E, and the last position in words. */
-static const struct {
-    plain_call *plain;
-    uint64_t step;
-    const char *last;
-} extras[KINDS] = {{plain_work, 10, "2^60"}, {plain_check_work, 4, "2^59"}};
-
-static void engine_work(int kind, uint64_t p, uint64_t row, uint64_t block, uint8_t sum[16])
+static void print_compilers(void)
 {
-    uint8_t squarings[16];
-    finished("work", kinds[kind].work(p, BLOCKS, row, block, sum, 16, squarings, 16));
+    for (int way = SIDE_BY_SIDE; way < TUNED; way += WAYS_OF_A_COMPILER) {
+        const char *version = in_c[way - ONE_CHAIN].version();
+        printf("%s %s %.*s", way == SIDE_BY_SIDE ? "C by" : " and", in_c[way - ONE_CHAIN].compiler, (int)strcspn(version, " "),
+               version);
+    }
+    printf(", -O3");
+#ifndef WITH_gcc
+    printf("; no gcc found");
+#endif
+#ifndef WITH_clang
+    printf("; no clang found");
+#endif
+    printf("\n");
 }
 
-static void plain_c_work(int kind, uint64_t p, uint64_t row, uint64_t block, uint8_t sum[16])
+/* The time of multiplications each of which waits for the one before. */
+static double time_multiplications(void)
 {
-    extras[kind].plain(p, BLOCKS, row, block, sum);
+    static volatile uint64_t seed = 3;
+    uint64_t x = seed;
+    double began = seconds();
+    for (int i = 0; i < MULTIPLICATIONS; i++)
+        x *= x;
+    seed = x;
+    return seconds() - began;
 }
 
-static void engine_halves(int kind, uint64_t p, uint64_t row, uint64_t block, uint8_t sum[16])
+/*
+ * The nanoseconds of a cycle. A multiplication of 64 bits is taken to have its
+ * lower word after three cycles, and to be started each cycle, so that the three
+ * of a squaring cannot take less than three cycles. That is so on x86-64 from
+ * Intel since Nehalem and from AMD since Zen; on others the clock and the limit
+ * that are printed are wrong.
+ */
+static double measure_cycle(void)
+{
+    double best = 1e9;
+    for (int i = 0; i < 30; i++)
+        best = least(best, time_multiplications());
+    double cycle = 1e9 * best / MULTIPLICATIONS / 3;
+    printf("clock about %.2f GHz, by a chain of multiplications of three cycles each\n", 1 / cycle);
+    return cycle;
+}
+
+static void work_halves(int kind, const struct ticket *t, uint8_t sum[16])
 {
     uint8_t upper[16], squarings[16];
-    finished("work lower", kinds[kind].work_lower(p, BLOCKS, row, block, sum, 16, squarings, 16));
-    finished("work upper", kinds[kind].work_upper(p, BLOCKS, row, block, upper, 16, squarings, 16));
+    finished("work lower", kinds[kind].work_lower(t->p, t->c, t->row, t->block, sum, 16, squarings, 16));
+    finished("work upper", kinds[kind].work_upper(t->p, t->c, t->row, t->block, upper, 16, squarings, 16));
     add_sum(sum, upper);
 }
 
-enum { ENGINE, PLAIN, HALVES, WAYS };
-static const struct {
-    void (*work)(int kind, uint64_t p, uint64_t row, uint64_t block, uint8_t sum[16]);
-    const char *name;
-} ways[WAYS] = {{engine_work, "the engine"}, {plain_c_work, "the plain C"}, {engine_halves, "the engine's halves"}};
-
-/* Works one ticket in each way; keeps the least time of each, and wants one sum of all. */
-static void time_ticket(int kind, int run, uint64_t row, uint64_t block, double times[WAYS])
+/* Works a ticket in one of the ways; the engine writes its squarings as well. */
+static void work(int way, int kind, const struct ticket *t, uint8_t sum[16], uint8_t squarings[16])
 {
-    uint8_t sums[WAYS][16];
-    for (int way = 0; way < WAYS; way++) {
+    if (way == ENGINE)
+        finished("work", kinds[kind].work(t->p, t->c, t->row, t->block, sum, 16, squarings, 16));
+    else if (way == HALVES)
+        work_halves(kind, t, sum);
+    else
+        in_c[way - ONE_CHAIN].work[kind](t->p, t->c, t->row, t->block, sum);
+}
+
+/* Works one ticket in each way; keeps the least time of each, wants one sum of all, and gives the squarings. */
+static double time_ticket(const struct sample *s, const struct ticket *t, double times[WAYS])
+{
+    uint8_t sums[WAYS][16], squarings[16] = {0};
+    for (int way = 0; way < s->ways; way++) {
         double began = seconds();
-        ways[way].work(kind, runs[run].p, row, block, sums[way]);
+        work(way, s->kind, t, sums[way], squarings);
         times[way] = least(times[way], seconds() - began);
         if (memcmp(sums[way], sums[ENGINE], 16) != 0) {
-            fprintf(stderr, "bench: %sthe engine and %s differ\n", kinds[kind].word, ways[way].name);
+            fprintf(stderr, "bench: %sp = %" PRIu64 ", the engine and %s differ\n", kinds[s->kind].word, s->p,
+                    way == HALVES ? "its halves" : in_c[way - ONE_CHAIN].name);
             exit(1);
         }
     }
+    return (double)number_at(squarings, 8);
 }
 
-/* The least times of the tickets of a run's sample, added up; gives how many tickets there are in a row. */
-static uint64_t time_tickets(int kind, int run, double totals[WAYS])
+static uint64_t in_a_row(const struct sample *s)
+{
+    return (s->c - s->first + s->step - 1) / s->step;
+}
+
+/* Works each ticket of a sample once in each way, and gives the squarings. */
+static double time_tickets(const struct sample *s, double times[][WAYS])
+{
+    double squarings = 0;
+    for (uint64_t i = 0; i < kinds[s->kind].rows * in_a_row(s); i++) {
+        const struct ticket t = {s->p, s->c, i / in_a_row(s), s->first + i % in_a_row(s) * s->step};
+        squarings += time_ticket(s, &t, times[i]);
+    }
+    return squarings;
+}
+
+static struct figures time_sample(const struct sample *s)
 {
     static double times[BBP_ROWS * BLOCKS][WAYS];
-    uint64_t in_a_row = (BLOCKS - runs[run].first + runs[run].step - 1) / runs[run].step, count = kinds[kind].rows * in_a_row;
+    uint64_t count = kinds[s->kind].rows * in_a_row(s);
+    struct figures all = {{0}, 0};
     for (uint64_t i = 0; i < count; i++)
         for (int way = 0; way < WAYS; way++)
             times[i][way] = 1e9;
-    for (int repetition = 0; repetition < REPETITIONS; repetition++)
-        for (uint64_t i = 0; i < count; i++)
-            time_ticket(kind, run, i / in_a_row, runs[run].first + i % in_a_row * runs[run].step, times[i]);
-    for (int way = 0; way < WAYS; way++)
-        totals[way] = 0;
+    for (int repetition = 0; repetition < s->repetitions; repetition++)
+        all.squarings = time_tickets(s, times);
     for (uint64_t i = 0; i < count; i++)
-        for (int way = 0; way < WAYS; way++)
-            totals[way] += times[i][way];
-    return in_a_row;
+        for (int way = 0; way < s->ways; way++)
+            all.times[way] += times[i][way];
+    return all;
+}
+
+static int fastest_side_by_side(const double times[WAYS])
+{
+    int best = SIDE_BY_SIDE;
+    for (int way = SIDE_BY_SIDE + 1; way < TUNED; way++)
+        if (times[way] < times[best])
+            best = way;
+    return best;
+}
+
+static void print_side_by_side(const double times[WAYS])
+{
+    printf("engine / side by side:");
+    for (int way = SIDE_BY_SIDE; way < WAYS; way++)
+        printf("%s %s %.3f", way == SIDE_BY_SIDE ? "" : way == TUNED ? "; tuned:" : ",", in_c[way - ONE_CHAIN].name,
+               times[ENGINE] / times[way]);
+    printf("\n");
 }
 
 /* Prints the ratios and gives the engine's time for the whole run. */
-static double compare_work(int kind, int run)
+static double compare_work(const struct sample *s, double cycle)
 {
-    double times[WAYS];
-    uint64_t in_a_row = time_tickets(kind, run, times);
-    double whole = times[ENGINE] * BLOCKS / (double)in_a_row;
-    printf("%sp = %-10" PRIu64 " engine %.3f s, plain C %.3f s, engine / plain C %.3f; whole run about %.1f s\n", kinds[kind].word,
-           runs[run].p, times[ENGINE], times[PLAIN], times[ENGINE] / times[PLAIN], whole);
-    printf("%sp = %-10" PRIu64 " halves %.3f s, halves / whole %.3f\n", kinds[kind].word, runs[run].p, times[HALVES],
-           times[HALVES] / times[ENGINE]);
+    char title[80];
+    struct figures all = time_sample(s);
+    const double *times = all.times;
+    int best = fastest_side_by_side(times);
+    double whole = times[ENGINE] * (double)s->c / (double)in_a_row(s), squaring = 1e9 * times[ENGINE] / all.squarings;
+    snprintf(title, sizeof title, "%sp = %-10" PRIu64, kinds[s->kind].word, s->p);
+    printf("%s engine %.3f s, one chain %.3f s: %.3f; fastest side by side %s %.3f s: %.3f; whole run about %.1f s\n", title,
+           times[ENGINE], times[ONE_CHAIN], times[ENGINE] / times[ONE_CHAIN], in_c[best - ONE_CHAIN].name, times[best],
+           times[ENGINE] / times[best], whole);
+    printf("%s %.3f ns a squaring, %.2f of the limit; halves %.3f s: %.3f of the whole\n", title, squaring, 3 * cycle / squaring,
+           times[HALVES], times[HALVES] / times[ENGINE]);
+    printf("%s ", title);
+    print_side_by_side(times);
     return whole;
+}
+
+static uint64_t terms_of_a_row(int kind, uint64_t p)
+{
+    return (4 * (p - 1) + 130) / extras[kind].step + 1;
 }
 
 static double terms_by_bits(int kind, uint64_t p)
@@ -126,15 +262,50 @@ static double terms_by_bits(int kind, uint64_t p)
     int bits = 0;
     for (uint64_t n = 4 * p; n > 0; n /= 2)
         bits++;
-    return (double)((4 * (p - 1) + 130) / extras[kind].step + 1) * bits;
+    return (double)terms_of_a_row(kind, p) * bits;
 }
 
-static void compare_runs(int kind)
+/* So many blocks that a repetition takes some tenths of a second in each way; at 10^9 it takes over a second. */
+static void compare_runs(int kind, double cycle)
 {
-    double near = compare_work(kind, 0), far = compare_work(kind, 1);
-    compare_work(kind, 2);
+    const struct sample samples[] = {{kind, 1000000, BLOCKS, 0, 1, WAYS, 15},
+                                     {kind, 10000000, BLOCKS, 8, 16, WAYS, 15},
+                                     {kind, 100000000, BLOCKS, 64, 128, WAYS, 15},
+                                     {kind, 1000000000, BLOCKS, 128, 256, WAYS, 5}};
+    double near = compare_work(&samples[0], cycle), far = compare_work(&samples[1], cycle);
+    compare_work(&samples[2], cycle);
+    compare_work(&samples[3], cycle);
     printf("%sfrom p = 10^6 to 10^7: time grows by %.2f, terms x bits by %.2f\n", kinds[kind].word, far / near,
-           terms_by_bits(kind, runs[1].p) / terms_by_bits(kind, runs[0].p));
+           terms_by_bits(kind, samples[1].p) / terms_by_bits(kind, samples[0].p));
+}
+
+/* The first position whose rows have so many terms. */
+static uint64_t position_with(int kind, uint64_t terms)
+{
+    return (extras[kind].step * (terms - 1) - 130 + 3) / 4 + 1;
+}
+
+static void compare_halves_of(int kind, uint64_t terms, uint64_t c)
+{
+    const struct sample s = {kind, position_with(kind, terms * c), c, c / 2, c, HALVES + 1, 30};
+    uint64_t of_a_row = terms_of_a_row(kind, s.p);
+    if ((s.first + 1) * of_a_row / c - s.first * of_a_row / c != terms) {
+        fprintf(stderr, "bench: %sp = %" PRIu64 ", C = %" PRIu64 ": not %" PRIu64 " terms\n", kinds[kind].word, s.p, c, terms);
+        exit(1);
+    }
+    struct figures all = time_sample(&s);
+    printf("%s%" PRIu64 " terms, C = %" PRIu64 ", p = %" PRIu64 ": halves / whole %.3f\n", kinds[kind].word, terms, c, s.p,
+           all.times[HALVES] / all.times[ENGINE]);
+}
+
+/* 2^15 + 1, 5 * 2^13 and 39,321 terms: cut in two again and again, they end in parts of different sizes. */
+static void compare_halves(int kind)
+{
+    static const uint64_t terms[] = {32769, 40960, 39321};
+    for (int i = 0; i < 3; i++) {
+        compare_halves_of(kind, terms[i], 1);
+        compare_halves_of(kind, terms[i], BLOCKS);
+    }
 }
 
 static uint8_t ledgers[LEDGERS][BBP_LEDGER_SIZE];
@@ -281,9 +452,14 @@ static void measure_stack(int kind)
 
 int main(void)
 {
-    compare_runs(BELLARD);
+    setvbuf(stdout, NULL, _IOLBF, 0);
+    print_compilers();
+    double cycle = measure_cycle();
+    compare_runs(BELLARD, cycle);
+    compare_halves(BELLARD);
     compare_books();
-    compare_runs(CHECK);
+    compare_runs(CHECK, cycle);
+    compare_halves(CHECK);
     time_quote(BELLARD);
     time_quote(CHECK);
     measure_stack(BELLARD);
