@@ -98,8 +98,8 @@ damaged montgomery::square 's/words::wrapping_sub\(/std::num::wrapping_sub_u64(/
 damaged montgomery::square 's/words::wrapping_sub\(sum, n\)/sum.wrapping_sub(n)/' ".wrapping_sub: $in_power no source"
 damaged montgomery::square 's/let q = /assert!(n > 1); &/' "assert!: $in_power no source"
 damaged words::wrapping_sub 's/wrapping_sub/wrapping_difference/' "words::wrapping_sub: $in_power no source"
-damaged montgomery::square 's/let q = /let two = series::terms::step(lo); &/' \
-    "series::terms::step: $in_power the branches match"
+damaged montgomery::square 's/let q = /let two = series::formula::step(lo); &/' \
+    "series::formula::step: $in_power the branches match"
 chosen='pub fn chosen(x: u64) -> u64
 {
     if x > 1 { x } else { 1 }

@@ -35,7 +35,7 @@ pub fn in_run(f: Series, added: bool, p: u64) -> u64
     ensures counts { λ r. ⌜ r ≡ charges isCharged (formulaOf f) (cond added plus minus) p (termCount (formulaOf f) p) ⌝ }
     ensures small { λ r. ⌜ r < 2 ^ 63 ⌝ }
 {
-    let rows = series::limits::row_count(f) as u64;
+    let rows = series::formula::row_count(f) as u64;
     let mut sum = 0;
     let mut row = 0;
     while row < rows {

@@ -121,7 +121,7 @@ pub fn rows_full(f: Series, s: &[u8], c: usize) -> bool
     requires { ⌜ (length (now s) ≡ ledgerSize (limitsOf (formulaOf f))) × (c ≤ 256) ⌝ }
     ensures { λ r. ⌜ r ≡ allBelow (rowCount (formulaOf f)) (λ row. allBelow c (λ block. bitIn (limitsOf (formulaOf f)) (now (s .entry)) row block)) ⌝ }
 {
-    let rows = series::limits::row_count(f);
+    let rows = series::formula::row_count(f);
     let mut row = 0;
     while row < rows {
         if !row_full(f, s, row, c) {

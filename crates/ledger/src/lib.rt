@@ -26,14 +26,14 @@ ghost use Rattle.ledger.specs.Calls.{openCall, postCall};
 pub fn ledger_size(f: Series) -> usize
     ensures { λ r. ⌜ r ≡ ledgerSize (limitsOf (formulaOf f)) ⌝ }
 {
-    16 + 48 * series::limits::row_count(f)
+    16 + 48 * series::formula::row_count(f)
 }
 
 // Where a ledger's marks begin: past the sums of its rows.
 pub fn marks_at(f: Series) -> usize
     ensures { λ r. ⌜ r ≡ marksAt (limitsOf (formulaOf f)) ⌝ }
 {
-    16 + 16 * series::limits::row_count(f)
+    16 + 16 * series::formula::row_count(f)
 }
 
 // Opens a ledger for the run p, c. Whatever the bytes were, they become a fresh ledger.
@@ -85,7 +85,7 @@ pub fn rows_clear(f: Series, s: &[u8], c: usize) -> bool
     requires { ⌜ length (now s) ≡ ledgerSize (limitsOf (formulaOf f)) ⌝ }
     ensures { λ r. ⌜ r ≡ allBelow (rowCount (formulaOf f)) (λ row. allBelow 256 (λ block. ltb block c || not (bitIn (limitsOf (formulaOf f)) (now (s .entry)) row block))) ⌝ }
 {
-    let rows = series::limits::row_count(f);
+    let rows = series::formula::row_count(f);
     let mut row = 0;
     while row < rows {
         if !row_clear(f, s, row, c) {

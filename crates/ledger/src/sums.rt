@@ -17,7 +17,7 @@ pub fn get(f: Series, s: &[u8]) -> [Wide; 7]
     requires { ⌜ length (now s) ≡ ledgerSize (limitsOf (formulaOf f)) ⌝ }
     ensures { λ r. ⌜ ((row : ℕ) → valueAt r row ≡ heldIn (rowCount (formulaOf f)) (now (s .entry)) row) ⌝ }
 {
-    let rows = series::limits::row_count(f);
+    let rows = series::formula::row_count(f);
     let zero = Wide { hi: 0, lo: 0 };
     let mut sums = [zero; 7];
     let mut row = 0;
@@ -33,7 +33,7 @@ pub fn put(f: Series, s: &mut [u8], sums: [Wide; 7])
     requires { ⌜ length (now s) ≡ ledgerSize (limitsOf (formulaOf f)) ⌝ }
     ensures { λ _. ⌜ now (s .exit) ≡ withSums (limitsOf (formulaOf f)) (now (s .entry)) (valueAt sums) ⌝ }
 {
-    let count = series::limits::row_count(f);
+    let count = series::formula::row_count(f);
     let mut row = 0;
     while row < count {
         words::put_wide(s, 16 + 16 * row, sums[row]);

@@ -39,7 +39,7 @@ pub fn marks(f: Series, s: &[u8], c: usize) -> usize
     requires { ⌜ (length (now s) ≡ ledgerSize (limitsOf (formulaOf f))) × (c ≤ 256) ⌝ }
     ensures { λ r. ⌜ r ≡ marksBelow (limitsOf (formulaOf f)) (now (s .entry)) c (rowCount (formulaOf f)) ⌝ }
 {
-    let rows = series::limits::row_count(f);
+    let rows = series::formula::row_count(f);
     let mut marks = 0;
     let mut row = 0;
     while row < rows {
@@ -55,7 +55,7 @@ pub fn remaining(f: Series, ledger: &[u8], s: &[u8]) -> u32
     ensures { λ r. ⌜ r ≡ unmarkedIn (limitsOf (formulaOf f)) (bytesLeft (sheetPostCall (limitsOf (formulaOf f)) (now (ledger .entry)) (now (s .entry))) 0) ⌝ }
 {
     let c = words::get(ledger, 8, 2) as usize;
-    let tickets = series::limits::row_count(f) * c;
+    let tickets = series::formula::row_count(f) * c;
     let marked = marks(f, ledger, c);
     let e = sheet::contents::count(s);
     (tickets - marked - e) as u32

@@ -48,7 +48,7 @@ pub fn in_range(f: Series, p: u64, c: u64) -> bool
     if p < 1 {
         return false;
     }
-    if series::limits::last_position(f) < p {
+    if series::formula::last_position(f) < p {
         return false;
     }
     if c < 1 {
@@ -61,7 +61,7 @@ pub fn in_range(f: Series, p: u64, c: u64) -> bool
 pub fn is_ticket(f: Series, c: u64, row: u64, block: u64) -> bool
     ensures { λ r. ⌜ r ≡ isTicket (limitsOf (formulaOf f)) c row block ⌝ }
 {
-    if row < series::limits::row_count(f) as u64 {
+    if row < series::formula::row_count(f) as u64 {
         block < c
     } else {
         false

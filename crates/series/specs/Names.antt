@@ -5,7 +5,7 @@ use Rattle.series.specs.Bellard.{bellard}
 use Rattle.series.specs.Check.{check}
 use Rattle.series.specs.declared.Series.{Series}
 use Rattle.series.specs.declared.Series.the-variants.{Bellard, Check}
-use Rattle.series.specs.declared.rows.Row as code
+use Rattle.series.specs.declared.formula.Row as code
 use Rattle.series.specs.declared.terms.Numbers.{Numbers}
 
 -- the formula that a name stands for

@@ -1,8 +1,7 @@
 // A formula as a value: its rows, the terms of a row and their sums.
+pub mod formula;
 pub mod groups;
 pub mod halves;
-pub mod limits;
-pub mod rows;
 pub mod squarings;
 pub mod store;
 pub mod terms;

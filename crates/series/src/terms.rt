@@ -28,32 +28,12 @@ pub struct Worked {
     pub squarings: Wide,
 }
 
-// By how much E falls from one term to the next.
-pub fn step(f: Series) -> u64
-    ensures { λ r. ⌜ r ≡ formulaOf f .step ⌝ }
-{
-    match f {
-        Series::Bellard => 10,
-        Series::Check => 4,
-    }
-}
-
 // K, the number of terms taken in every row.
 pub fn term_count(f: Series, p: u64) -> u64
     requires { ⌜ Position (formulaOf f) p ⌝ }
     ensures { λ r. ⌜ r ≡ termCount (formulaOf f) p ⌝ }
 {
-    (4 * (p - 1) + 130) / step(f) + 1
-}
-
-// Whether the signs of a row alternate.
-pub fn alternates(f: Series) -> bool
-    ensures { λ r. ⌜ r ≡ formulaOf f .alternates ⌝ }
-{
-    match f {
-        Series::Bellard => true,
-        Series::Check => false,
-    }
+    (4 * (p - 1) + 130) / crate::formula::step(f) + 1
 }
 
 // The numbers of a row at position p.
@@ -61,14 +41,14 @@ pub fn numbers_of(f: Series, p: u64, row: u64) -> Numbers
     requires { ⌜ Position (formulaOf f) p × (row < rowCount (formulaOf f)) ⌝ }
     ensures { λ n. ⌜ n ≡ numbersOf (formulaOf f) p (rowAt (formulaOf f) row) ⌝ }
 {
-    let r = crate::rows::row_at(f, row);
+    let r = crate::formula::row_at(f, row);
     Numbers {
         rise: 4 * (p - 1) + r.lead,
-        step: step(f),
+        step: crate::formula::step(f),
         m: r.m,
         j: r.j,
         even: r.added,
-        odd: r.added != alternates(f),
+        odd: r.added != crate::formula::alternates(f),
     }
 }
 
@@ -138,7 +118,10 @@ pub fn one_term(numbers: Numbers, k: u64, q: Quotient) -> Worked
 // more than a word holds.
 pub fn range_sum(f: Series, p: u64, row: u64, first: u64, end: u64) -> Worked
     requires { ⌜ Position (formulaOf f) p × (row < rowCount (formulaOf f)) × (first ≤ end) × (end ≤ termCount (formulaOf f) p) ⌝ }
-    ensures { λ s. ⌜ (joined (s .sum .hi) (s .sum .lo) ≡ rangeSum (formulaOf f) p (rowAt (formulaOf f) row) first (end - first)) × (joined (s .squarings .hi) (s .squarings .lo) ≡ rangeSquarings (formulaOf f) p (rowAt (formulaOf f) row) first (end - first)) ⌝ }
+    ensures { λ s. ⌜
+        (joined (s .sum .hi) (s .sum .lo) ≡ rangeSum (formulaOf f) p (rowAt (formulaOf f) row) first (end - first))
+        × (joined (s .squarings .hi) (s .squarings .lo) ≡ rangeSquarings (formulaOf f) p (rowAt (formulaOf f) row) first (end - first))
+        ⌝ }
 {
     let numbers = numbers_of(f, p, row);
     let mut sum = Wide { hi: 0, lo: 0 };

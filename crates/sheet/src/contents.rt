@@ -19,7 +19,7 @@ ghost use Rattle.sheet.specs.Sheet as definition;
 pub fn sheet_most(f: Series) -> usize
     ensures { λ r. ⌜ r ≡ sheetMost (limitsOf (formulaOf f)) ⌝ }
 {
-    16 + 5120 * series::limits::row_count(f)
+    16 + 5120 * series::formula::row_count(f)
 }
 
 // How many tickets the head counts.

@@ -21,7 +21,7 @@ ghost use Rattle.sheet.specs.Calls.{writeCall};
 pub fn list_most(f: Series) -> usize
     ensures { λ r. ⌜ r ≡ listMost (limitsOf (formulaOf f)) ⌝ }
 {
-    512 * series::limits::row_count(f)
+    512 * series::formula::row_count(f)
 }
 
 // Whether the e pairs of a list are strictly ascending.

@@ -10,7 +10,7 @@ use Rattle.words.specs.Bytes.{AllBytes}
 use Rattle.words.proofs.get.Reads as get-reads
 use Rattle.series.specs.Names.{formulaOf}
 use Rattle.series.proofs.FewRows.{few-rows, near-positions}
-use Rattle.series.proofs.limits.row_count.Reads as row-count-reads
+use Rattle.series.proofs.formula.row_count.Reads as row-count-reads
 use Rattle.run.specs.Run.{limitsOf}
 use Rattle.run.specs.Call.{bytesLeft}
 use Rattle.ledger.specs.Ledger.{blocksIn}

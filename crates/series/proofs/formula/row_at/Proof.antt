@@ -1,4 +1,4 @@
--- `series::rows::row_at` meets its contract: row by row, each table stands for the rows of its formula.
+-- `series::formula::row_at` meets its contract: row by row, each table stands for the rows of its formula.
 -- Assumes nothing.
 use mathlib.Core.Path.{_≡_, refl, sym, subst}
 use mathlib.Core.Bool.{Bool, true, false}
@@ -13,9 +13,9 @@ use Rattle.series.specs.Series as definition
 use Rattle.series.specs.Names.{formulaOf, rowOf}
 use Rattle.series.specs.declared.Series.{Series}
 use Rattle.series.specs.declared.Series.the-variants.{Bellard, Check}
-use Rattle.series.specs.declared.rows.Row.{Row}
-use Rattle.series.proofs.rows.row_at.Statement.{statement}
-use Rattle.series.proofs.rows.row_at.Tie as tie
+use Rattle.series.specs.declared.formula.Row.{Row}
+use Rattle.series.proofs.formula.row_at.Statement.{statement}
+use Rattle.series.proofs.formula.row_at.Tie as tie
 
 row : ℕ → ℕ → ℕ → Bool → Row
 row m j lead added = record { m = m; j = j; lead = lead; added = added }

@@ -1,12 +1,12 @@
--- `series::limits::row_count` meets its contract, formula by formula.
+-- `series::formula::row_count` meets its contract, formula by formula.
 -- Assumes nothing.
 use mathlib.Core.Path.{sym, ap}
 use Rattle.series.specs.Series.{rowCount}
 use Rattle.series.specs.Names.{formulaOf}
 use Rattle.series.specs.declared.Series.{Series}
 use borrow.Author.Needs.{needs}
-use Rattle.series.proofs.limits.row_count.Statement.{statement}
-use Rattle.series.proofs.limits.row_count.Tie as tie
+use Rattle.series.proofs.formula.row_count.Statement.{statement}
+use Rattle.series.proofs.formula.row_count.Tie as tie
 
 enum-told : tie.Need-enum-told
 enum-told c = search needs

@@ -1,4 +1,5 @@
-// The rows of each formula, as tables.
+// What a formula sets: its rows, how many there are, the last position, by how much E falls, and whether signs alternate. No other file asks
+// which formula it is.
 use crate::Series;
 ghost use mathlib.Core.Path.{_≡_};
 ghost use Prim.Native.Nat.{_<_};
@@ -84,6 +85,46 @@ const CHECK: [Row; 4] = [
         added: false,
     },
 ];
+
+// How many rows there are.
+pub fn row_count(f: Series) -> usize
+    ensures { λ r. ⌜ r ≡ rowCount (formulaOf f) ⌝ }
+{
+    match f {
+        Series::Bellard => BELLARD.len(),
+        Series::Check => CHECK.len(),
+    }
+}
+
+// The last position of a run.
+pub fn last_position(f: Series) -> u64
+    ensures { λ r. ⌜ r ≡ formulaOf f .last ⌝ }
+{
+    match f {
+        Series::Bellard => 1152921504606846976,
+        Series::Check => 576460752303423488,
+    }
+}
+
+// By how much E falls from one term to the next.
+pub fn step(f: Series) -> u64
+    ensures { λ r. ⌜ r ≡ formulaOf f .step ⌝ }
+{
+    match f {
+        Series::Bellard => 10,
+        Series::Check => 4,
+    }
+}
+
+// Whether the signs of a row alternate.
+pub fn alternates(f: Series) -> bool
+    ensures { λ r. ⌜ r ≡ formulaOf f .alternates ⌝ }
+{
+    match f {
+        Series::Bellard => true,
+        Series::Check => false,
+    }
+}
 
 // Row r of a formula.
 pub fn row_at(f: Series, r: u64) -> Row

@@ -1,11 +1,11 @@
--- `series::terms::alternates` meets its contract, formula by formula.
+-- `series::formula::alternates` meets its contract, formula by formula.
 -- Assumes nothing.
 use mathlib.Core.Path.{sym, ap}
 use Rattle.series.specs.Names.{formulaOf}
 use Rattle.series.specs.declared.Series.{Series}
 use borrow.Author.Needs.{needs}
-use Rattle.series.proofs.terms.alternates.Statement.{statement}
-use Rattle.series.proofs.terms.alternates.Tie as tie
+use Rattle.series.proofs.formula.alternates.Statement.{statement}
+use Rattle.series.proofs.formula.alternates.Tie as tie
 
 enum-told : tie.Need-enum-told
 enum-told c = search needs

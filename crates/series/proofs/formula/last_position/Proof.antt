@@ -1,11 +1,11 @@
--- `series::limits::last_position` meets its contract, formula by formula.
+-- `series::formula::last_position` meets its contract, formula by formula.
 -- Assumes nothing.
 use mathlib.Core.Path.{sym, ap}
 use Rattle.series.specs.Names.{formulaOf}
 use Rattle.series.specs.declared.Series.{Series}
 use borrow.Author.Needs.{needs}
-use Rattle.series.proofs.limits.last_position.Statement.{statement}
-use Rattle.series.proofs.limits.last_position.Tie as tie
+use Rattle.series.proofs.formula.last_position.Statement.{statement}
+use Rattle.series.proofs.formula.last_position.Tie as tie
 
 enum-told : tie.Need-enum-told
 enum-told c = search needs
