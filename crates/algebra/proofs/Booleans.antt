@@ -23,6 +23,13 @@ pub and-false : (a : Bool) → (a && false) ≡ false
 and-false true = refl
 and-false false = refl
 
+-- one of two that fails
+pub left-fails : (a b : Bool) → a ≡ false → (a && b) ≡ false
+left-fails a b e = rw e refl
+
+pub right-fails : (a b : Bool) → b ≡ false → (a && b) ≡ false
+right-fails a b e = rw e (and-false a)
+
 -- true and false are not equal
 pub not-both : (b : Bool) → b ≡ true → b ≡ false → ⊥
 not-both b e f = let z : _≡_ {A = ℕ} 0 1 = cc in omega arith

@@ -7,3 +7,4 @@ pub mod Integers
 pub mod Newton
 pub mod Montgomery
 pub mod Power
+pub mod Machines

@@ -18,7 +18,7 @@ use Rattle.words.proofs.Bytes.{field-again, field-lt, part-join}
 use Rattle.run.specs.Run.{Limits, inRange, isTicket}
 use Rattle.ledger.specs.Ledger.{ledgerSize, sumAt, marksAt, head, posIn, blocksIn, rowSumIn, bitIn, markIn, inOrder}
 use Rattle.ledger.specs.Plain.{encode, decode, sumRows, markByte, markRows}
-use Rattle.ledger.proofs.Marks.{mark-at, length-mark-rows}
+use Rattle.ledger.proofs.MarkBytes.{mark-at, length-mark-rows}
 use Rattle.ledger.proofs.RowSums.{sums-again}
 use Rattle.ledger.proofs.Image.{Good}
 

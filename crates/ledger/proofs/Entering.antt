@@ -14,7 +14,7 @@ use lib.Pow.{pow-add, pow-pos}
 use lib.Seq.{getD-set-same, getD-set-other}
 use Rattle.run.specs.Run.{Limits}
 use Rattle.ledger.specs.Ledger.{markAt, bitIn, mark}
-use Rattle.ledger.proofs.Marks.{high-off, pow-under}
+use Rattle.ledger.proofs.MarkBytes.{high-off, pow-under}
 
 -- ---- one byte: bit k, which is 0, set
 

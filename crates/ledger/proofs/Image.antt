@@ -15,11 +15,11 @@ use Rattle.algebra.proofs.Below.{all-true}
 use Rattle.words.specs.Bytes.{bytesOf, valueOf, field}
 use Rattle.words.proofs.Bytes.{value-bytes}
 use Rattle.series.specs.Series.{modulus}
-use Rattle.run.specs.Run.{Limits, inRange, isTicket}
+use Rattle.run.specs.Run.{Limits, inRange, isTicket, Entry}
 use Rattle.run.proofs.Range.{range-of, ticket-row, ticket-block}
 use Rattle.ledger.specs.Ledger.{ledgerSize, marksAt, head, posIn, blocksIn, rowSumIn, totalOf, totalIn, bitIn, markIn, inOrder, viewOf, mark, enter, fresh}
-use Rattle.ledger.specs.Plain.{Plain, Entry, plainView, encode, admit, including, adding, sumRows, markRows, markByte, opened}
-use Rattle.ledger.proofs.Marks.{bit, mark-at, mark-set, mark-past, byte-bit, length-mark-rows, rows-none}
+use Rattle.ledger.specs.Plain.{Plain, plainView, encode, admit, including, adding, sumRows, markRows, markByte, opened}
+use Rattle.ledger.proofs.MarkBytes.{bit, mark-at, mark-set, mark-past, byte-bit, length-mark-rows, rows-none}
 use Rattle.ledger.proofs.RowSums.{length-before, sum-read, add-sums, rows-zero}
 
 bit-eqb : (b : Bool) → eqb (bit b) 1 ≡ b

@@ -1,7 +1,8 @@
 pub mod Opening
 pub mod Inspect
 pub mod Posting
-pub mod Marks
+pub mod MarkBytes
+pub mod Counting
 pub mod RowSums
 pub mod Image
 pub mod Entering

@@ -1,31 +1,32 @@
 -- Posting a ticket: the refusal at each test, what is known where none applies, and the ledger with the ticket entered.
 -- Assumes nothing.
 use mathlib.Core.Path.{_≡_, refl, sym, ap, _∙_}
-use mathlib.Core.Bool.{true, false, not, _&&_}
-use mathlib.Core.List.{List, [], _∷_}
+use mathlib.Core.Bool.{Bool, true, false, not, _&&_}
+use mathlib.Core.List.{List, [], _∷_, _++_}
 use Prim.Native.Nat.{ℕ, _+_, _*_, _-_, _/_, _%_, _^_, _≤_, _<_}
 use native.Mathlib.Nat.{div-add-mod', mod-lt, div-lt-iff-lt-mul, mul-le-mul-right, one-mul, mod-eq-of-lt}
 use native.Mathlib.Omega.{arith}
-use borrow.Author.Tests.{eqb-true, eqb-false, eq-eqb, ne-eqb, not-false}
+use borrow.Author.Tests.{eqb-true, eqb-false, eq-eqb, ne-eqb, not-true}
 use lib.Dec.{eqb}
 use lib.IntN.{pos, negsuc}
 use lib.ListN.{length, getD}
 use lib.Pow.{pow-add, pow-pos}
 use lib.Seq.{take-all}
-use Rattle.algebra.proofs.Booleans.{and-left, and-right, neither}
+use Rattle.algebra.proofs.Booleans.{and-left, and-right, and-both, left-fails, right-fails}
 use Rattle.words.specs.Bytes.{valueOf, field}
-use Rattle.run.specs.Refusal.{refusal}
+use Rattle.run.specs.Refusal.{Test, refusal, tested}
 use Rattle.run.specs.Run.{Limits, inRange, isTicket}
+use Rattle.run.specs.Tests.{ofSizes, ofTicket}
 use Rattle.run.specs.Answers.{answerOf}
 use Rattle.run.specs.declared.Refusal.{Refusal}
 use Rattle.run.specs.declared.Answer.{Answer}
 use Rattle.run.specs.declared.Answer.the-variants.{Finished, Refused}
 use Rattle.run.proofs.Range.{range-of, ticket-row, ticket-block}
-use Rattle.run.proofs.Answering.{passes}
+use Rattle.run.proofs.Testing.{Left, here, past, none-left, part-here, part-past, part-passes, passed, ticket-passed}
 use Rattle.run.specs.Call.{Call, refusedBy, answered, Does}
-use Rattle.run.proofs.Calls.{refuses, finishes, was-worked, turned-down}
-use Rattle.ledger.specs.Ledger.{View, viewOf, ledgerSize, markAt, posIn, blocksIn, bitIn, markIn, inOrder, enter}
-use Rattle.ledger.specs.Calls.{ticketRefusal, postCall}
+use Rattle.run.proofs.Calls.{finishes, was-worked, turned-down}
+use Rattle.ledger.specs.Ledger.{View, viewOf, ledgerSize, markAt, blocksIn, bitIn, markIn, enter}
+use Rattle.ledger.specs.Calls.{ofLedger, ofMarks, postTests, postCall}
 
 -- ---- the bit of a ticket
 
@@ -53,22 +54,22 @@ mark-fits lim s row block h e =
 
 -- ---- the ledger at a ticket of its run
 
--- the byte of the mark is in the ledger
-pub mark-inside : (lim : Limits) (s : List ℕ) (p C row block : ℕ) → length s ≡ ledgerSize lim → inRange lim p C ≡ true
-    → isTicket lim C row block ≡ true → markAt lim row block < length s
-mark-inside lim s p C row block h r t =
-    omega (arith, range-of lim p C r .C-high, ticket-row lim C row block t, ticket-block lim C row block t)
-
 -- a ticket of the ledger's run is marked if its bit is set
 pub mark-is-bit : (lim : Limits) (s : List ℕ) (C row block : ℕ) → C ≡ blocksIn s → isTicket lim C row block ≡ true
     → markIn lim s row block ≡ bitIn lim s row block
 unfolding markIn
 mark-is-bit lim s C row block e t = rw (← e, t) refl
 
--- ---- the tests of a post of one ticket, in their order
+-- ---- what it means that the tests are passed, whatever the ledger is seen by
 
--- what is known where none applies, whatever the ledger is seen by
-pub record TicketTaken (lim : Limits) (v : View) (p C row block : ℕ) (sum : List ℕ) : Type 0 where
+pub ledger-passed : (v : View) (p C : ℕ) (ts : List Test) → refusal (ofLedger v p C ++ ts) ≡ 0
+    → (v .ordered ≡ true) × (p ≡ v .p) × (C ≡ v .C) × (refusal ts ≡ 0)
+ledger-passed v p C ts e =
+    let order = passed 4 _ _ e in
+    let run = passed 5 _ ts (order .1) in
+    (order .0, eqb-true _ _ (and-left (eqb p (v .p)) _ (run .0)), eqb-true _ _ (and-right (eqb p (v .p)) _ (run .0)), run .1)
+
+pub record PostTaken (lim : Limits) (v : View) (p C row block : ℕ) (sum : List ℕ) : Type 0 where
   pub sized : v .sized ≡ true
   pub sum-sized : length sum ≡ 16
   pub range : inRange lim p C ≡ true
@@ -78,27 +79,22 @@ pub record TicketTaken (lim : Limits) (v : View) (p C row block : ℕ) (sum : Li
   pub same-C : C ≡ v .C
   pub new : v .marked row block ≡ false
 
-pub ticket-taken : (lim : Limits) (v : View) (p C row block : ℕ) (sum : List ℕ) → ticketRefusal lim v p C row block sum ≡ 0
-    → TicketTaken lim v p C row block sum
-unfolding ticketRefusal
-ticket-taken lim v p C row block sum e =
-    let e₁ = passes 0 _ _ e in
-    let e₂ = passes 1 _ _ (e₁ .1) in
-    let e₄ = passes 3 _ _ (e₂ .1) in
-    let e₅ = passes 4 _ _ (e₄ .1) in
-    let e₆ = passes 5 _ _ (e₅ .1) in
-    let e₇ = passes 6 _ _ (e₆ .1) in
-    let sizes = neither (not (v .sized)) (not (eqb (length sum) 16)) (e₁ .0) in
-    let run = not-false (eqb p (v .p) && eqb C (v .C)) (e₆ .0) in
+pub post-taken : (lim : Limits) (v : View) (p C row block : ℕ) (sum : List ℕ) → refusal (postTests lim v p C row block sum) ≡ 0
+    → PostTaken lim v p C row block sum
+unfolding postTests
+post-taken lim v p C row block sum e =
+    let sizes = passed 0 _ _ e in
+    let t = ticket-passed lim p C row block _ (sizes .1) in
+    let l = ledger-passed v p C _ (t .2) in
     record {
-      sized = not-false _ (sizes .0);
-      sum-sized = eqb-true (length sum) 16 (not-false _ (sizes .1));
-      range = not-false _ (e₂ .0);
-      ticket = not-false _ (e₄ .0);
-      ordered = not-false _ (e₅ .0);
-      same-p = eqb-true _ _ (and-left (eqb p (v .p)) _ run);
-      same-C = eqb-true _ _ (and-right (eqb p (v .p)) _ run);
-      new = e₇ .0;
+      sized = and-left (v .sized) _ (sizes .0);
+      sum-sized = eqb-true (length sum) 16 (and-right (v .sized) _ (sizes .0));
+      range = t .0;
+      ticket = t .1;
+      ordered = l .0;
+      same-p = l .1;
+      same-C = l .2;
+      new = not-true _ (passed 6 _ [] (l .3) .0);
     }
 
 -- the same of the bytes of a ledger
@@ -113,14 +109,37 @@ pub block-low : {lim : Limits} {s : List ℕ} {p C row block : ℕ} {sum : List 
 block-low {lim} {s} {p} {C} {row} {block} h =
     omega (arith, range-of lim p C (h .range) .C-high, ticket-block lim C row block (h .ticket))
 
+-- ---- the tests in their order
+
+-- after those of the ticket the byte of its mark is in a ledger that has its size
+pub mark-inside : (lim : Limits) (p C row block : ℕ) (a : Answer) → answerOf a ≡ tested (ofTicket lim p C row block) → (v : ℕ) → a ≡ Finished v
+    → (size : ℕ) → size ≡ ledgerSize lim → markAt lim row block < size
+mark-inside lim p C row block a e v f size h =
+    let t = ticket-passed lim p C row block [] (part-passes _ a e v f) in
+    omega (arith, range-of lim p C (t .0) .C-high, ticket-row lim C row block (t .1), ticket-block lim C row block (t .1))
+
 module _ (lim : Limits) (s : List ℕ) (p C row block : ℕ) (sum : List ℕ) where
   abbrev this : Call
   this = postCall lim s p C row block sum
 
-  pub passed : refusedBy this ≡ 0 → Passed lim s p C row block sum
-  unfolding postCall refusedBy ticketRefusal viewOf
-  passed e =
-      let t = ticket-taken lim (viewOf lim s) p C row block sum e in
+  abbrev sizes : Bool
+  sizes = eqb (length s) (ledgerSize lim) && eqb (length sum) 16
+
+  -- the last part, and the last two
+  abbrev ofMark : List Test
+  ofMark = ofMarks (not (markIn lim s row block))
+
+  abbrev ofLedgerOn : List Test
+  ofLedgerOn = ofLedger (viewOf lim s) p C ++ ofMark
+
+  all-tests : Left this (ofSizes sizes ++ ofTicket lim p C row block ++ ofLedgerOn)
+  unfolding postCall postTests refusedBy viewOf
+  all-tests = record { decide = refl }
+
+  pub passed-all : refusedBy this ≡ 0 → Passed lim s p C row block sum
+  unfolding postCall refusedBy viewOf
+  passed-all e =
+      let t = post-taken lim (viewOf lim s) p C row block sum e in
       record {
         sized = eqb-true (length s) (ledgerSize lim) (t .sized);
         sum-sized = t .sum-sized;
@@ -130,42 +149,43 @@ module _ (lim : Limits) (s : List ℕ) (p C row block : ℕ) (sum : List ℕ) wh
       }
 
   pub ledger-size : (length s ≡ ledgerSize lim → ⊥) → negsuc 0 ≡ answered this
-  unfolding postCall refusedBy refusal viewOf
-  ledger-size h = refuses this 0 (rw (ne-eqb _ _ h) refl) .0
+  ledger-size h = here all-tests (left-fails _ _ (ne-eqb _ _ h))
 
-  pub sum-size : length s ≡ ledgerSize lim → (length sum ≡ 16 → ⊥) → negsuc 0 ≡ answered this
-  unfolding postCall refusedBy refusal viewOf
-  sum-size h l = refuses this 0 (rw (eq-eqb _ _ h, ne-eqb _ _ l) refl) .0
+  pub sum-size : (length sum ≡ 16 → ⊥) → negsuc 0 ≡ answered this
+  sum-size h = here all-tests (right-fails (eqb (length s) (ledgerSize lim)) _ (ne-eqb _ _ h))
 
-  module _ (h : length s ≡ ledgerSize lim) (l : length sum ≡ 16) where
-    pub out-of-range : inRange lim p C ≡ false → negsuc 1 ≡ answered this
-    unfolding postCall refusedBy refusal viewOf
-    out-of-range r = refuses this 1 (rw (eq-eqb _ _ h, eq-eqb _ _ l, r) refl) .0
+  module _ (h : length s ≡ ledgerSize lim) (l : length sum ≡ 16) (a : Answer) (ea : answerOf a ≡ tested (ofTicket lim p C row block)) where
+    from-ticket : Left this (ofTicket lim p C row block ++ ofLedgerOn)
+    from-ticket = past all-tests (and-both (eqb (length s) (ledgerSize lim)) _ (eq-eqb _ _ h) (eq-eqb _ _ l))
 
-    pub no-ticket : inRange lim p C ≡ true → isTicket lim C row block ≡ false → negsuc 3 ≡ answered this
-    unfolding postCall refusedBy refusal viewOf
-    no-ticket r t = refuses this 3 (rw (eq-eqb _ _ h, eq-eqb _ _ l, r, t) refl) .0
+    pub no-ticket : (r : Refusal) → a ≡ Refused r → answerOf (Refused r) ≡ answered this
+    no-ticket = part-here _ a ea ofLedgerOn from-ticket
 
-    module _ (r : inRange lim p C ≡ true) (t : isTicket lim C row block ≡ true) where
-      pub out-of-order : inOrder lim s ≡ false → negsuc 4 ≡ answered this
-      unfolding postCall refusedBy refusal viewOf
-      out-of-order o = refuses this 4 (rw (eq-eqb _ _ h, eq-eqb _ _ l, r, t, o) refl) .0
+    module _ (v : ℕ) (f : a ≡ Finished v) where
+      is-one : isTicket lim C row block ≡ true
+      is-one = ticket-passed lim p C row block [] (part-passes _ a ea v f) .1
 
-      pub other-run : inOrder lim s ≡ true → (eqb p (posIn s) && eqb C (blocksIn s)) ≡ false → negsuc 5 ≡ answered this
-      unfolding postCall refusedBy refusal viewOf
-      other-run o u = refuses this 5 (rw (eq-eqb _ _ h, eq-eqb _ _ l, r, t, o, u) refl) .0
+      module _ (b : Answer) (eb : answerOf b ≡ tested (ofLedger (viewOf lim s) p C)) where
+        from-ledger : Left this ofLedgerOn
+        from-ledger = part-past _ a ea ofLedgerOn from-ticket refl v f
 
-      module _ (o : inOrder lim s ≡ true) (u : (eqb p (posIn s) && eqb C (blocksIn s)) ≡ true) where
-        blocks : C ≡ blocksIn s
-        blocks = eqb-true C (blocksIn s) (and-right (eqb p (posIn s)) (eqb C (blocksIn s)) u)
+        pub other-ledger : (r : Refusal) → b ≡ Refused r → answerOf (Refused r) ≡ answered this
+        other-ledger = part-here _ b eb ofMark from-ledger
 
-        pub marked : bitIn lim s row block ≡ true → negsuc 6 ≡ answered this
-        unfolding postCall refusedBy refusal viewOf
-        marked b = refuses this 6 (rw (eq-eqb _ _ h, eq-eqb _ _ l, r, t, o, u, mark-is-bit lim s C row block blocks t, b) refl) .0
+        module _ (w : ℕ) (g : b ≡ Finished w) where
+          is-bit : markIn lim s row block ≡ bitIn lim s row block
+          unfolding viewOf
+          is-bit = mark-is-bit lim s C row block (ledger-passed (viewOf lim s) p C [] (part-passes _ b eb w g) .2) is-one
 
-        pub admitted : bitIn lim s row block ≡ false → pos 0 ≡ answered this
-        unfolding postCall refusedBy refusal viewOf
-        admitted b = finishes this (rw (eq-eqb _ _ h, eq-eqb _ _ l, r, t, o, u, mark-is-bit lim s C row block blocks t, b) refl) .0
+          from-mark : Left this ofMark
+          from-mark = part-past _ b eb ofMark from-ledger refl w g
+
+          pub marked : bitIn lim s row block ≡ true → negsuc 6 ≡ answered this
+          marked t = here from-mark (ap not (is-bit ∙ t))
+
+          pub admitted : bitIn lim s row block ≡ false → pos 0 ≡ answered this
+          unfolding postCall
+          admitted t = none-left (past from-mark (ap not (is-bit ∙ t)))
 
 -- ---- after the tests, by what they answered
 
@@ -177,7 +197,7 @@ sum-read sum h = ap valueOf (take-all 16 sum (omega arith))
 module _ (lim : Limits) (s : List ℕ) (p C row block : ℕ) (sum : List ℕ) (a : Answer)
     (tested : answerOf a ≡ answered (postCall lim s p C row block sum)) where
   pub none-applied : (v : ℕ) → a ≡ Finished v → Passed lim s p C row block sum
-  none-applied v e = passed lim s p C row block sum (was-worked _ a tested v e .0)
+  none-applied v e = passed-all lim s p C row block sum (was-worked _ a tested v e .0)
 
   pub posted : (v x : ℕ) (t : List ℕ) → a ≡ Finished v → x ≡ field sum 0 16 → t ≡ enter lim s row block x
       → Does (postCall lim s p C row block sum) (pos 0) (t ∷ [])

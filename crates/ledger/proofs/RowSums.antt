@@ -23,7 +23,7 @@ use Rattle.run.specs.Run.{Limits}
 use Rattle.ledger.specs.Ledger.{sumAt, marksAt, rowSumIn, totalOf, totalIn, addTo, mark, enter}
 use Rattle.ledger.specs.Plain.{adding, sumRows}
 use Rattle.ledger.specs.RowSums.{zeroWide, valueAt, heldIn, withSums}
-use Rattle.ledger.proofs.Marks.{mark-past}
+use Rattle.ledger.proofs.MarkBytes.{mark-past}
 
 -- ---- the bytes of several rows' sums
 

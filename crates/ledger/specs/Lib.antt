@@ -1,4 +1,5 @@
 pub mod Ledger
 pub mod Plain
+pub mod Marks
 pub mod RowSums
 pub mod Calls

@@ -6,14 +6,8 @@ use Prim.Native.Nat.{ℕ, zero, suc, _+_, _*_, _%_, _^_}
 use lib.Dec.{eqb}
 use Rattle.words.specs.Bytes.{bytesOf}
 use Rattle.series.specs.Series.{modulus}
-use Rattle.run.specs.Run.{Limits, isTicket}
+use Rattle.run.specs.Run.{Entry, Limits, isTicket}
 use Rattle.ledger.specs.Ledger.{View, head, posIn, blocksIn, rowSumIn, markIn}
-
--- A ticket of a run, with the sum that is offered for it.
-pub record Entry : Type 0 where
-  pub row : ℕ
-  pub block : ℕ
-  pub sum : ℕ
 
 -- The set of tickets is given by its test: `tickets row block` says whether the ticket is in it. `sums row` is the sum of a row.
 pub record Plain : Type 0 where

@@ -1,4 +1,5 @@
 // The ledger: its bytes, opening it and posting a ticket.
+pub mod marks;
 pub mod sums;
 
 use run::Answer;
@@ -7,33 +8,25 @@ use series::Series;
 use words::Wide;
 ghost use mathlib.Core.Path.{_≡_};
 ghost use mathlib.Core.List.{[], _∷_};
-ghost use mathlib.Core.Bool.{true, false, not, _&&_, _||_};
-ghost use Prim.Native.Nat.{_+_, _*_, _≤_, _<_};
-ghost use lib.Dec.{ltb, eqb};
+ghost use mathlib.Core.Bool.{false, _&&_};
+ghost use Prim.Native.Nat.{_+_, _*_, _≤_};
+ghost use lib.Dec.{eqb};
 ghost use lib.ListN.{length};
-ghost use Rattle.algebra.specs.Test.{allBelow};
 ghost use Rattle.words.specs.Words.{joined};
 ghost use Rattle.series.specs.Names.{formulaOf};
-ghost use Rattle.series.specs.Series.{rowCount};
+ghost use Rattle.run.specs.Refusal.{tested};
 ghost use Rattle.run.specs.Run.{limitsOf};
 ghost use Rattle.run.specs.Answers.{answerOf};
 ghost use Rattle.run.specs.Call.{answered, Does};
-ghost use Rattle.ledger.specs.Ledger.{ledgerSize, marksAt, markAt, posIn, blocksIn, bitIn, inOrder, mark, Enterable};
+ghost use Rattle.ledger.specs.Ledger.{ledgerSize, posIn, blocksIn, inOrder, viewOf, Enterable};
 ghost use Rattle.ledger.specs.Ledger as definition;
-ghost use Rattle.ledger.specs.Calls.{openCall, postCall};
+ghost use Rattle.ledger.specs.Calls.{ofLedger, openCall, postCall};
 
 // How many bytes a ledger has.
 pub fn ledger_size(f: Series) -> usize
     ensures { λ r. ⌜ r ≡ ledgerSize (limitsOf (formulaOf f)) ⌝ }
 {
     16 + 48 * series::formula::row_count(f)
-}
-
-// Where a ledger's marks begin: past the sums of its rows.
-pub fn marks_at(f: Series) -> usize
-    ensures { λ r. ⌜ r ≡ marksAt (limitsOf (formulaOf f)) ⌝ }
-{
-    16 + 16 * series::formula::row_count(f)
 }
 
 // Opens a ledger for the run p, c. Whatever the bytes were, they become a fresh ledger.
@@ -52,50 +45,6 @@ pub fn open(f: Series, p: u64, c: u64, ledger: &mut [u8]) -> Answer
     Answer::Finished(0)
 }
 
-// Whether the bit of a row and block is set.
-pub fn bit_set(f: Series, s: &[u8], row: usize, block: usize) -> bool
-    requires { ⌜ markAt (limitsOf (formulaOf f)) row block < length (now s) ⌝ }
-    ensures { λ r. ⌜ r ≡ bitIn (limitsOf (formulaOf f)) (now (s .entry)) row block ⌝ }
-{
-    let byte = s[marks_at(f) + (32 * row + block / 8)];
-    let bit = block % 8;
-    let shifted = byte >> bit;
-    shifted % 2 == 1
-}
-
-// Whether a row has no bit at c or above.
-pub fn row_clear(f: Series, s: &[u8], row: usize, c: usize) -> bool
-    requires { ⌜ (length (now s) ≡ ledgerSize (limitsOf (formulaOf f))) × (row < rowCount (formulaOf f)) ⌝ }
-    ensures { λ r. ⌜ r ≡ allBelow 256 (λ block. ltb block c || not (bitIn (limitsOf (formulaOf f)) (now (s .entry)) row block)) ⌝ }
-{
-    let mut block = 0;
-    while block < 256 {
-        if c <= block {
-            if bit_set(f, s, row, block) {
-                return false;
-            }
-        }
-        block += 1;
-    }
-    true
-}
-
-// Whether none of the rows has a bit at c or above.
-pub fn rows_clear(f: Series, s: &[u8], c: usize) -> bool
-    requires { ⌜ length (now s) ≡ ledgerSize (limitsOf (formulaOf f)) ⌝ }
-    ensures { λ r. ⌜ r ≡ allBelow (rowCount (formulaOf f)) (λ row. allBelow 256 (λ block. ltb block c || not (bitIn (limitsOf (formulaOf f)) (now (s .entry)) row block))) ⌝ }
-{
-    let rows = series::formula::row_count(f);
-    let mut row = 0;
-    while row < rows {
-        if !row_clear(f, s, row, c) {
-            return false;
-        }
-        row += 1;
-    }
-    true
-}
-
 // Whether a ledger is in order.
 pub fn in_order(f: Series, s: &[u8]) -> bool
     requires { ⌜ length (now s) ≡ ledgerSize (limitsOf (formulaOf f)) ⌝ }
@@ -109,7 +58,7 @@ pub fn in_order(f: Series, s: &[u8]) -> bool
     if words::get(s, 10, 6) != 0 {
         return false;
     }
-    rows_clear(f, s, c as usize)
+    marks::none_from(f, s, c as usize)
 }
 
 // Whether a ledger's run is p, c.
@@ -124,15 +73,18 @@ pub fn same_run(s: &[u8], p: u64, c: u64) -> bool
     }
 }
 
-// Sets the bit of a row and block.
-pub fn set_bit(f: Series, ledger: &mut [u8], row: usize, block: usize)
-    requires { ⌜ (markAt (limitsOf (formulaOf f)) row block < length (now ledger)) × (bitIn (limitsOf (formulaOf f)) (now ledger) row block ≡ false) ⌝ }
-    ensures { λ _. ⌜ now (ledger .exit) ≡ mark (limitsOf (formulaOf f)) (now (ledger .entry)) row block ⌝ }
+// What the refusal table says of a ledger that has its size, and of the run p, c that a call names.
+pub fn test_ledger(f: Series, s: &[u8], p: u64, c: u64) -> Answer
+    requires { ⌜ length (now s) ≡ ledgerSize (limitsOf (formulaOf f)) ⌝ }
+    ensures { λ r. ⌜ answerOf r ≡ tested (ofLedger (viewOf (limitsOf (formulaOf f)) (now (s .entry))) p c) ⌝ }
 {
-    let at = marks_at(f) + (32 * row + block / 8);
-    let bit = block % 8;
-    let byte = ledger[at] + (1 << bit);
-    ledger[at] = byte;
+    if !in_order(f, s) {
+        return Answer::Refused(Refusal::OutOfOrder);
+    }
+    if !same_run(s, p, c) {
+        return Answer::Refused(Refusal::OtherRun);
+    }
+    Answer::Finished(0)
 }
 
 // Adds x to the sum of a row and sets the bit of a row and block.
@@ -142,12 +94,12 @@ pub fn enter(f: Series, ledger: &mut [u8], row: usize, block: usize, x: Wide)
 {
     let mut sums = sums::get(f, ledger);
     sums[row] = words::add(sums[row], x);
-    set_bit(f, ledger, row, block);
+    marks::set_bit(f, ledger, row, block);
     sums::put(f, ledger, sums);
 }
 
 // What the refusal table says of a post of one ticket: its tests in the order of their numbers.
-pub fn test_ticket(
+pub fn test_post(
     f: Series,
     ledger: &[u8],
     p: u64,
@@ -156,7 +108,9 @@ pub fn test_ticket(
     block: u64,
     sum: &[u8],
 ) -> Answer
-    ensures { λ r. ⌜ answerOf r ≡ answered (postCall (limitsOf (formulaOf f)) (now (ledger .entry)) p c row block (now (sum .entry))) ⌝ }
+    ensures { λ r. ⌜
+        answerOf r ≡ answered (postCall (limitsOf (formulaOf f)) (now (ledger .entry)) p c row block (now (sum .entry)))
+        ⌝ }
 {
     if ledger.len() != ledger_size(f) {
         return Answer::Refused(Refusal::WrongSize);
@@ -164,19 +118,13 @@ pub fn test_ticket(
     if sum.len() != 16 {
         return Answer::Refused(Refusal::WrongSize);
     }
-    if !run::in_range(f, p, c) {
-        return Answer::Refused(Refusal::OutOfRange);
+    if let Answer::Refused(r) = run::test_ticket(f, p, c, row, block) {
+        return Answer::Refused(r);
     }
-    if !run::is_ticket(f, c, row, block) {
-        return Answer::Refused(Refusal::NoTicket);
+    if let Answer::Refused(r) = test_ledger(f, ledger, p, c) {
+        return Answer::Refused(r);
     }
-    if !in_order(f, ledger) {
-        return Answer::Refused(Refusal::OutOfOrder);
-    }
-    if !same_run(ledger, p, c) {
-        return Answer::Refused(Refusal::OtherRun);
-    }
-    if bit_set(f, ledger, row as usize, block as usize) {
+    if marks::bit_set(f, ledger, row as usize, block as usize) {
         return Answer::Refused(Refusal::Marked);
     }
     Answer::Finished(0)
@@ -192,9 +140,12 @@ pub fn post(
     block: u64,
     sum: &[u8],
 ) -> Answer
-    ensures { λ r. ⌜ Does (postCall (limitsOf (formulaOf f)) (now (ledger .entry)) p c row block (now (sum .entry))) (answerOf r) (now (ledger .exit) ∷ []) ⌝ }
+    ensures { λ r. ⌜
+        Does (postCall (limitsOf (formulaOf f)) (now (ledger .entry)) p c row block (now (sum .entry))) (answerOf r)
+        (now (ledger .exit) ∷ [])
+        ⌝ }
 {
-    match test_ticket(f, ledger, p, c, row, block, sum) {
+    match test_post(f, ledger, p, c, row, block, sum) {
         Answer::Finished(_) => {
             enter(
                 f,

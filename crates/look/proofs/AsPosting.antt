@@ -12,28 +12,28 @@ use Rattle.run.specs.Run.{Limits}
 use Rattle.run.proofs.Answering.{negated, refused, finished, stays, kept, changed, not-refused, refused-by}
 use Rattle.run.specs.Call.{answered, refusedBy, allLeft}
 use Rattle.ledger.specs.Ledger.{viewOf}
-use Rattle.sheet.specs.Calls.{sheetRefusal, sheetPostCall}
-use Rattle.look.specs.Look.{lookRefusal, lookCall}
+use Rattle.posting.specs.Calls.{sheetTests, sheetPostCall}
+use Rattle.look.specs.Look.{lookTests, lookCall}
 use Rattle.look.specs.AsPosting.{AsPosting, LooksAsPosted}
 
 module _ (lim : Limits) (ledger s total : List ℕ) where
   abbrev look-number : ℕ
-  look-number = lookRefusal lim (viewOf lim ledger) s total
+  look-number = refusal (lookTests lim (viewOf lim ledger) s total)
 
   abbrev post-number : ℕ
-  post-number = sheetRefusal lim (viewOf lim ledger) s
+  post-number = refusal (sheetTests lim (viewOf lim ledger) s)
 
   pub wrong-size : (length total ≡ 16 → ⊥) → look-number ≡ 1
-  unfolding lookRefusal refusal
+  unfolding lookTests refusal
   wrong-size h = rw (ne-eqb (length total) 16 h) refl
 
   module _ (room : length total ≡ 16) where
     pub same-number : look-number ≡ post-number
-    unfolding lookRefusal sheetRefusal refusal
+    unfolding lookTests sheetTests refusal
     same-number = rw (eq-eqb (length total) 16 room) refl
 
     as-posting : AsPosting lim ledger s total
-    unfolding lookCall refusedBy answered lookRefusal allLeft sheetPostCall sheetRefusal
+    unfolding lookCall refusedBy answered allLeft sheetPostCall
     as-posting = record {
       refused = λ n h e.
           let q : look-number ≡ n = same-number ∙ refused-by post-number 0 n h e in
@@ -49,7 +49,7 @@ module _ (lim : Limits) (ledger s total : List ℕ) where
     }
 
 pub looks-as-posted : (lim : Limits) → LooksAsPosted lim
-unfolding lookCall refusedBy answered lookRefusal allLeft
+unfolding lookCall refusedBy answered allLeft
 looks-as-posted lim = record {
   as-posting = as-posting lim;
   other-size = λ ledger s total h.

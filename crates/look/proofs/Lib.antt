@@ -1,4 +1,4 @@
-pub mod Counting
+pub mod Unmarked
 pub mod Posted
 pub mod AsPosting
 pub mod Looking

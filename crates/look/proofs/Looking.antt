@@ -11,6 +11,7 @@ use lib.IntN.{pos, negsuc}
 use lib.ListN.{length, take, drop}
 use Rattle.words.specs.Bytes.{bytesOf}
 use Rattle.words.proofs.Bytes.{over-all}
+use Rattle.run.specs.Refusal.{refusal}
 use Rattle.run.specs.Run.{Limits}
 use Rattle.run.specs.Answers.{answerOf}
 use Rattle.run.specs.declared.Refusal.{Refusal}
@@ -20,30 +21,30 @@ use Rattle.run.proofs.Answering.{refused, finished, was-finished, was-number}
 use Rattle.run.specs.Call.{answered, bytesLeft, refusedBy, Does}
 use Rattle.run.proofs.Calls.{works, turned-down}
 use Rattle.ledger.specs.Ledger.{viewOf, totalIn}
-use Rattle.sheet.specs.Calls.{sheetPostCall, sheetRefusal}
-use Rattle.look.specs.Look.{unmarkedIn, lookRefusal, lookCall}
+use Rattle.posting.specs.Calls.{sheetPostCall}
+use Rattle.look.specs.Look.{unmarkedIn, lookTests, lookCall}
 use Rattle.look.proofs.AsPosting.{wrong-size, same-number}
 
 -- the post would be taken
 pub would-take : (lim : Limits) (ledger s : List ℕ) (a : Answer) (v : ℕ) → answerOf a ≡ answered (sheetPostCall lim ledger s) → a ≡ Finished v
     → answered (sheetPostCall lim ledger s) ≡ pos 0
-unfolding sheetPostCall refusedBy answered sheetRefusal
+unfolding sheetPostCall refusedBy answered
 would-take lim ledger s a v tested f = sym (finished _ 0 (was-finished a v _ 0 f tested .0))
 
 module _ (lim : Limits) (ledger s total : List ℕ) where
   -- ---- after the tests of posting
 
   pub other-size : (length total ≡ 16 → ⊥) → negsuc 0 ≡ answered (lookCall lim ledger s total)
-  unfolding lookCall refusedBy answered lookRefusal
+  unfolding lookCall refusedBy answered
   other-size h = refused _ 0 _ (wrong-size lim ledger s total h)
 
   module _ (a : Answer) (tested : answerOf a ≡ answered (sheetPostCall lim ledger s)) where
     pub would-remain : length total ≡ 16 → (v n : ℕ) → a ≡ Finished v → n ≡ unmarkedIn lim (bytesLeft (sheetPostCall lim ledger s) 0) → pos n ≡ answered (lookCall lim ledger s total)
-    unfolding sheetPostCall refusedBy answered sheetRefusal lookCall lookRefusal
+    unfolding sheetPostCall refusedBy answered lookCall
     would-remain room v n f e = ap pos e ∙ finished _ _ (same-number lim ledger s total room ∙ was-finished a v _ 0 f tested .0)
 
     pub would-refuse : length total ≡ 16 → (r : Refusal) → a ≡ Refused r → answerOf (Refused r) ≡ answered (lookCall lim ledger s total)
-    unfolding sheetPostCall refusedBy answered sheetRefusal lookCall lookRefusal
+    unfolding sheetPostCall refusedBy answered lookCall
     would-refuse room r f =
         let n = was-number a r _ 0 f tested in
         sym (n .2) ∙ refused _ (n .0) _ (same-number lim ledger s total room ∙ n .1)
@@ -52,8 +53,8 @@ module _ (lim : Limits) (ledger s total : List ℕ) where
 
   module _ (a : Answer) (tested : answerOf a ≡ answered (lookCall lim ledger s total)) where
     module _ (v : ℕ) (f : a ≡ Finished v) where
-      no-number : lookRefusal lim (viewOf lim ledger) s total ≡ 0
-      unfolding lookCall refusedBy answered lookRefusal
+      no-number : refusal (lookTests lim (viewOf lim ledger) s total) ≡ 0
+      unfolding lookCall refusedBy answered
       no-number = was-finished a v _ _ f tested .0
 
       pub has-room : length total ≡ 16
@@ -64,7 +65,7 @@ module _ (lim : Limits) (ledger s total : List ℕ) where
           go false e = let w = wrong-size lim ledger s total (eqb-false (length total) 16 e) in absurd (omega (arith, w, no-number))
 
       pub takes : answered (sheetPostCall lim ledger s) ≡ pos 0
-      unfolding sheetPostCall refusedBy answered sheetRefusal
+      unfolding sheetPostCall refusedBy answered
       takes = sym (finished _ 0 (sym (same-number lim ledger s total has-room) ∙ no-number))
 
       pub looked : (x : ℕ) (t : List ℕ) → x ≡ totalIn lim (bytesLeft (sheetPostCall lim ledger s) 0) → t ≡ take 0 total ++ bytesOf 16 x ++ drop (0 + 16) total

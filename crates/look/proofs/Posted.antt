@@ -3,7 +3,7 @@
 -- Assumes nothing.
 use mathlib.Core.Path.{_≡_, sym, ap, ap₂, subst, _∙_}
 use mathlib.Core.List.{List, [], _∷_, foldl, foldl-append}
-use Prim.Native.Nat.{ℕ, zero, suc, _+_, _*_, _%_, _^_, _<_, _≤_}
+use Prim.Native.Nat.{ℕ, zero, suc, _+_, _*_, _-_, _%_, _^_, _<_, _≤_}
 use native.Mathlib.Nat.{add-zero, mod-mod}
 use native.Mathlib.Numerals.{add-one}
 use native.Mathlib.Omega.{arith}
@@ -24,16 +24,17 @@ use Rattle.ledger.specs.Plain.{Plain, plainView, admit, encode, decode}
 use Rattle.ledger.proofs.RowSums.{total-adding}
 use Rattle.ledger.proofs.Image.{Good, view-encode, total-encode}
 use Rattle.sheet.specs.Sheet.{sheetPos, sheetBlocks, sheetCount, rowIn, blockIn, sumIn, entriesFrom, entries}
-use Rattle.sheet.specs.Calls.{enterEntry, sheetPostCall, sheetRefusal}
-use Rattle.sheet.specs.Posts.{sheet, postRefusal, postEntries}
-use Rattle.sheet.proofs.Simulation.{Ready, entered, sheet-taken, post-ready}
-use Rattle.sheet.proofs.Singles.{Held, held}
+use Rattle.posting.specs.Calls.{enterEntry, sheetPostCall}
+use Rattle.posting.specs.Posts.{sheet, postRefusal, postEntries}
+use Rattle.posting.proofs.Testing.{sheet-taken}
+use Rattle.posting.proofs.Simulation.{Ready, entered, post-ready}
+use Rattle.posting.proofs.Singles.{Held, held}
 use Rattle.sheet.proofs.Many.{count-entries}
 use Rattle.sheet.proofs.Each.{entry, entries-next, every-entries}
-use Rattle.sheet.proofs.Testing.{formed-length}
+use Rattle.sheet.proofs.Form.{formed-length}
 use Rattle.look.specs.Look.{unmarkedOf, unmarkedIn}
-use Rattle.look.specs.Marks.{marksBelow}
-use Rattle.look.proofs.Counting.{all-less-marks, unmarked-all, by-bits}
+use Rattle.ledger.specs.Marks.{marksFrom}
+use Rattle.look.proofs.Unmarked.{all-less-marks, unmarked-all, by-bits}
 
 -- what is known of a sheet that is taken, and of the ledger that takes it
 pub record Taken (lim : Limits) (ledger b : List ℕ) : Type 0 where
@@ -42,13 +43,13 @@ pub record Taken (lim : Limits) (ledger b : List ℕ) : Type 0 where
   pub few-blocks : blocksIn ledger ≤ 256
 
 pub is-taken : (lim : Limits) (ledger b : List ℕ) → answered (sheetPostCall lim ledger b) ≡ pos 0 → Taken lim ledger b
-unfolding sheetPostCall refusedBy answered sheetRefusal viewOf
+unfolding sheetPostCall refusedBy answered viewOf
 is-taken lim ledger b e =
     let t = sheet-taken lim (viewOf lim ledger) b (not-refused _ 0 0 e .0) in
-    let C = range-of lim (sheetPos b) (sheetBlocks b) (t .range) .C-high in
+    let C = range-of lim (sheetPos b) (sheetBlocks b) (t .form .range) .C-high in
     record {
       sized = eqb-true (length ledger) (ledgerSize lim) (t .sized);
-      whole = formed-length b (t .well-formed);
+      whole = formed-length b (t .form .well-formed);
       few-blocks = subst (λ (n : ℕ). n ≤ 256) (t .same-C) C;
     }
 
@@ -72,7 +73,7 @@ module _ (lim : Limits) (fits : lim .last < 2 ^ 64) (ledger b : List ℕ) (bytes
   holds = held lim fits ledger b bytes taken
 
   ready : Ready lim (decode lim ledger) (entries b)
-  unfolding postRefusal postEntries
+  unfolding postEntries
   ready = post-ready lim (decode lim ledger) (sheet b) (holds .taken)
 
   -- the plain ledger with the sheet's tickets in it
@@ -80,7 +81,7 @@ module _ (lim : Limits) (fits : lim .last < 2 ^ 64) (ledger b : List ℕ) (bytes
   all-in = foldl admit (decode lim ledger) (entries b)
 
   pub leaves : (bytesLeft (sheetPostCall lim ledger b) 0 ≡ encode lim all-in) × Good lim all-in
-  unfolding sheetPostCall refusedBy answered sheetRefusal allLeft all-in
+  unfolding sheetPostCall refusedBy answered allLeft all-in
   leaves =
       let e = entered lim (decode lim ledger) (entries b) (holds .good) ready in (
         sym (changed _ _ ledger (not-refused _ 0 0 taken .0)) ∙ ap (λ (l : List ℕ). foldl (enterEntry lim) l (entries b)) (sym (holds .again)) ∙ e .0,
@@ -97,22 +98,22 @@ module _ (lim : Limits) (fits : lim .last < 2 ^ 64) (ledger b : List ℕ) (bytes
       (ap (unmarkedOf lim) (sym (view-encode lim all-in (leaves .1))) ∙ ap (unmarkedIn lim) (sym (leaves .0)))
 
   -- all tickets of the run: those that would remain, the sheet's, and those marked before
-  pub all-tickets : (r C e m : ℕ) → r ≡ lim .rows → C ≡ blocksIn ledger → e ≡ sheetCount b → m ≡ marksBelow lim ledger C (lim .rows)
+  pub all-tickets : (r C e m : ℕ) → r ≡ lim .rows → C ≡ blocksIn ledger → e ≡ sheetCount b → m ≡ marksFrom lim ledger 0 (C - 0) (lim .rows)
       → r * C ≡ unmarkedIn lim (bytesLeft (sheetPostCall lim ledger b) 0) + e + m
   unfolding viewOf
   all-tickets r C e m er eC ee em =
       ap₂ _*_ er eC ∙ sym (all-less-marks lim (viewOf lim ledger))
       ∙ ap₂ _+_ (unmarked-left ∙ ap (λ (n : ℕ). unmarkedIn lim (bytesLeft (sheetPostCall lim ledger b) 0) + n) (sym ee))
-      (sym (em ∙ ap (λ (n : ℕ). marksBelow lim ledger n (lim .rows)) eC ∙ by-bits lim ledger))
+      (sym (em ∙ ap (λ (n : ℕ). marksFrom lim ledger 0 (n - 0) (lim .rows)) eC ∙ by-bits lim ledger))
 
   -- ---- the total, ticket by ticket
 
   row-in : (i : ℕ) → i < sheetCount b → rowIn b i < lim .rows
-  unfolding entries
+  unfolding entries postRefusal
   row-in i l =
       ticket-row lim (sheetBlocks b) (rowIn b i) (blockIn b i)
       (all-at (sheetCount b) (λ j. isTicket lim (sheetBlocks b) (rowIn b j) (blockIn b j))
-      (sym (every-entries (λ t. isTicket lim (sheetBlocks b) (t .row) (t .block)) b (sheetCount b)) ∙ sheet-taken lim _ b (holds .taken) .tickets) i l)
+      (sym (every-entries (λ t. isTicket lim (sheetBlocks b) (t .row) (t .block)) b (sheetCount b)) ∙ sheet-taken lim _ b (holds .taken) .form .tickets) i l)
 
   -- the plain ledger with the first i of the sheet's tickets
   after : ℕ → Plain

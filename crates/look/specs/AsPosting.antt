@@ -10,7 +10,7 @@ use Rattle.words.specs.Bytes.{bytesOf}
 use Rattle.run.specs.Run.{Limits}
 use Rattle.run.specs.Call.{answered, bytesLeft}
 use Rattle.ledger.specs.Ledger.{View, totalIn}
-use Rattle.sheet.specs.Calls.{sheetPostCall}
+use Rattle.posting.specs.Calls.{sheetPostCall}
 use Rattle.look.specs.Look.{unmarkedOf, unmarkedIn, lookCall}
 
 -- What a look at the sheet s gives beside a post of s, with 16 bytes lent for the total.

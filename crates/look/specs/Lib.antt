@@ -1,3 +1,2 @@
 pub mod Look
 pub mod AsPosting
-pub mod Marks

@@ -1,18 +1,20 @@
 -- A look at a sheet before it is posted: it is refused as posting would be; otherwise its answer and its total are those of a copy of the ledger
 -- with the sheet posted onto it. Document 02, slip 6.
 use mathlib.Core.Path.{refl}
-use mathlib.Core.Bool.{Bool, not, cond, _||_}
-use mathlib.Core.List.{List, [], _∷_}
+use mathlib.Core.Bool.{cond, _&&_}
+use mathlib.Core.List.{List, [], _∷_, _++_}
 use Prim.Native.Nat.{ℕ}
 use lib.Dec.{eqb}
 use lib.ListN.{length}
 use Rattle.algebra.specs.Sum.{sum}
 use Rattle.words.specs.Bytes.{bytesOf}
-use Rattle.run.specs.Refusal.{Test, _⇐_, refusal}
+use Rattle.run.specs.Refusal.{Test}
 use Rattle.run.specs.Call.{Call, slice, bytesLeft}
 use Rattle.run.specs.Run.{Limits}
+use Rattle.run.specs.Tests.{ofSizes}
+use Rattle.sheet.specs.Tests.{sheetSized}
 use Rattle.ledger.specs.Ledger.{View, viewOf, totalIn}
-use Rattle.sheet.specs.Calls.{sheetTests, sheetPostCall}
+use Rattle.posting.specs.Calls.{ofPosting, sheetPostCall}
 
 -- how many tickets of a run are not marked, by what is seen of its ledger
 unfoldable pub unmarkedOf : Limits → View → ℕ
@@ -21,20 +23,13 @@ unmarkedOf lim v = sum (λ row. sum (λ block. cond (v .marked row block) 0 1) 0
 abbrev pub unmarkedIn : Limits → List ℕ → ℕ
 unmarkedIn lim s = unmarkedOf lim (viewOf lim s)
 
--- a call's tests, where the first, that of sizes, applies to one slice more
-abbrev pub alsoOfSize : Bool → List Test → List Test
-alsoOfSize wrong [] = []
-alsoOfSize wrong (t ∷ ts) = (t .number ⇐ wrong || t .applies) ∷ ts
-
--- the tests of posting the sheet, and the size of the total
-abbrev pub lookTests : Limits → View → List ℕ → List ℕ → List Test
-lookTests lim v s total = alsoOfSize (not (eqb (length total) 16)) (sheetTests lim v s)
-
-unfoldable pub lookRefusal : Limits → View → List ℕ → List ℕ → ℕ
-lookRefusal lim v s total = refusal (lookTests lim v s total)
+-- the tests of posting the sheet, and the size of the total among the sizes
+unfoldable pub lookTests : Limits → View → List ℕ → List ℕ → List Test
+lookTests lim v s total = ofSizes (eqb (length total) 16 && (v .sized && sheetSized lim s)) ++ ofPosting lim v s
 
 -- the number of unmarked tickets that would remain, and the total that the row sums would have
 unfoldable pub lookCall : Limits → List ℕ → List ℕ → List ℕ → Call
+unfolding lookTests
 lookCall lim ledger s total = record {
   tests = lookTests lim (viewOf lim ledger) s total;
   in-order = refl;

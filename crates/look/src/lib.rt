@@ -5,58 +5,26 @@ use series::Series;
 use words::Wide;
 ghost use mathlib.Core.List.{[], _∷_};
 ghost use mathlib.Core.Path.{_≡_};
-ghost use Prim.Native.Nat.{_<_, _≤_};
 ghost use lib.IntN.{pos};
-ghost use lib.ListN.{length};
 ghost use Rattle.words.specs.Words.{joined};
 ghost use Rattle.series.specs.Names.{formulaOf};
-ghost use Rattle.series.specs.Series.{rowCount};
 ghost use Rattle.run.specs.Run.{limitsOf};
 ghost use Rattle.run.specs.Answers.{answerOf};
 ghost use Rattle.run.specs.Call.{Does, answered, bytesLeft};
-ghost use Rattle.ledger.specs.Ledger.{ledgerSize, totalIn};
-ghost use Rattle.sheet.specs.Calls.{sheetPostCall};
+ghost use Rattle.ledger.specs.Ledger.{totalIn};
+ghost use Rattle.posting.specs.Calls.{sheetPostCall};
 ghost use Rattle.look.specs.Look.{unmarkedIn, lookCall};
-ghost use Rattle.look.specs.Marks.{rowMarks, marksBelow};
-
-// How many of a row's first c blocks are marked.
-pub fn row_marks(f: Series, s: &[u8], row: usize, c: usize) -> usize
-    requires { ⌜ (length (now s) ≡ ledgerSize (limitsOf (formulaOf f))) × (row < rowCount (formulaOf f)) × (c ≤ 256) ⌝ }
-    ensures counts { λ r. ⌜ r ≡ rowMarks (limitsOf (formulaOf f)) (now (s .entry)) c row ⌝ }
-    ensures few { λ r. ⌜ r ≤ 256 ⌝ }
-{
-    let mut marks = 0;
-    let mut block = 0;
-    while block < c {
-        marks += ledger::bit_set(f, s, row, block) as usize;
-        block += 1;
-    }
-    marks
-}
-
-// How many of the first c blocks of all rows are marked.
-pub fn marks(f: Series, s: &[u8], c: usize) -> usize
-    requires { ⌜ (length (now s) ≡ ledgerSize (limitsOf (formulaOf f))) × (c ≤ 256) ⌝ }
-    ensures { λ r. ⌜ r ≡ marksBelow (limitsOf (formulaOf f)) (now (s .entry)) c (rowCount (formulaOf f)) ⌝ }
-{
-    let rows = series::formula::row_count(f);
-    let mut marks = 0;
-    let mut row = 0;
-    while row < rows {
-        marks += row_marks(f, s, row, c);
-        row += 1;
-    }
-    marks
-}
 
 // The number of unmarked tickets that would remain: all of the run, less those marked now, less the sheet's.
 pub fn remaining(f: Series, ledger: &[u8], s: &[u8]) -> u32
     requires { ⌜ answered (sheetPostCall (limitsOf (formulaOf f)) (now ledger) (now s)) ≡ pos 0 ⌝ }
-    ensures { λ r. ⌜ r ≡ unmarkedIn (limitsOf (formulaOf f)) (bytesLeft (sheetPostCall (limitsOf (formulaOf f)) (now (ledger .entry)) (now (s .entry))) 0) ⌝ }
+    ensures { λ r. ⌜
+        r ≡ unmarkedIn (limitsOf (formulaOf f)) (bytesLeft (sheetPostCall (limitsOf (formulaOf f)) (now (ledger .entry)) (now (s .entry))) 0)
+        ⌝ }
 {
     let c = words::get(ledger, 8, 2) as usize;
     let tickets = series::formula::row_count(f) * c;
-    let marked = marks(f, ledger, c);
+    let marked = ledger::marks::count(f, ledger, 0, c);
     let e = sheet::contents::count(s);
     (tickets - marked - e) as u32
 }
@@ -64,7 +32,10 @@ pub fn remaining(f: Series, ledger: &[u8], s: &[u8]) -> u32
 // The total that the row sums would have.
 pub fn total_after(f: Series, ledger: &[u8], s: &[u8]) -> Wide
     requires { ⌜ answered (sheetPostCall (limitsOf (formulaOf f)) (now ledger) (now s)) ≡ pos 0 ⌝ }
-    ensures { λ r. ⌜ joined (r .hi) (r .lo) ≡ totalIn (limitsOf (formulaOf f)) (bytesLeft (sheetPostCall (limitsOf (formulaOf f)) (now (ledger .entry)) (now (s .entry))) 0) ⌝ }
+    ensures { λ r. ⌜
+        joined (r .hi) (r .lo)
+        ≡ totalIn (limitsOf (formulaOf f)) (bytesLeft (sheetPostCall (limitsOf (formulaOf f)) (now (ledger .entry)) (now (s .entry))) 0)
+        ⌝ }
 {
     let e = sheet::contents::count(s);
     let mut total = ledger::sums::total(ledger::sums::get(f, ledger));
@@ -78,12 +49,14 @@ pub fn total_after(f: Series, ledger: &[u8], s: &[u8]) -> Wide
 
 // What the refusal table says of a look, its tests in the order of their numbers; or the number of unmarked tickets that would remain.
 pub fn test_look(f: Series, ledger: &[u8], s: &[u8], total: &[u8]) -> Answer
-    ensures { λ r. ⌜ answerOf r ≡ answered (lookCall (limitsOf (formulaOf f)) (now (ledger .entry)) (now (s .entry)) (now (total .entry))) ⌝ }
+    ensures { λ r. ⌜
+        answerOf r ≡ answered (lookCall (limitsOf (formulaOf f)) (now (ledger .entry)) (now (s .entry)) (now (total .entry)))
+        ⌝ }
 {
     if total.len() != 16 {
         return Answer::Refused(Refusal::WrongSize);
     }
-    match sheet::posting::test_sheet(f, ledger, s) {
+    match posting::test_post(f, ledger, s) {
         Answer::Finished(_) => Answer::Finished(remaining(f, ledger, s)),
         Answer::Refused(r) => Answer::Refused(r),
     }
@@ -91,7 +64,10 @@ pub fn test_look(f: Series, ledger: &[u8], s: &[u8], total: &[u8]) -> Answer
 
 // Looks at a sheet. All tests are done before a byte is written.
 pub fn look(f: Series, ledger: &[u8], s: &[u8], total: &mut [u8]) -> Answer
-    ensures { λ r. ⌜ Does (lookCall (limitsOf (formulaOf f)) (now (ledger .entry)) (now (s .entry)) (now (total .entry))) (answerOf r) (now (total .exit) ∷ []) ⌝ }
+    ensures { λ r. ⌜
+        Does (lookCall (limitsOf (formulaOf f)) (now (ledger .entry)) (now (s .entry)) (now (total .entry))) (answerOf r)
+        (now (total .exit) ∷ [])
+        ⌝ }
 {
     match test_look(f, ledger, s, total) {
         Answer::Finished(rest) => {

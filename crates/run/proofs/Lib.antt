@@ -3,4 +3,5 @@ pub mod Range
 pub mod Blocks
 pub mod Positions
 pub mod Smallest
+pub mod Testing
 pub mod Calls

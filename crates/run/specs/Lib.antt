@@ -1,4 +1,5 @@
 pub mod Refusal
 pub mod Run
+pub mod Tests
 pub mod Answers
 pub mod Call

@@ -1,6 +1,6 @@
 -- The refusal table: numbered conditions, of which the smallest that applies is given. Document 01, "Refusal table".
 use mathlib.Core.Path.{_≡_}
-use mathlib.Core.Bool.{Bool, true, cond, _&&_}
+use mathlib.Core.Bool.{Bool, true, not, cond, _&&_}
 use mathlib.Core.List.{List, [], _∷_, List·Memᴰ}
 use Prim.Native.Nat.{ℕ, zero, suc, _≤_}
 use lib.Dec.{leb, ltb}
@@ -18,7 +18,13 @@ pub record Test : Type 0 where
 abbrev pub _⇐_ : ℕ → Bool → Test
 n ⇐ b = record { number = n; applies = b }
 
+-- the same by what has to hold
+abbrev pub _unless_ : ℕ → Bool → Test
+n unless b = n ⇐ not b
+
 infix 20 _⇐_
+infix 20 _unless_
+
 -- the number of the first test that applies, or 0 where none does: each call lists its tests with the smallest number first
 unfoldable pub refusal : List Test → ℕ
 refusal [] = 0
@@ -58,3 +64,7 @@ pub record Smallest (ts : List Test) (n : ℕ) : Type 0 where
 unfoldable pub answer : ℕ → ℕ → ℤ
 answer zero value = pos value
 answer (suc n) value = negsuc n
+
+-- what is answered where tests are all that is made
+abbrev pub tested : List Test → ℤ
+tested ts = answer (refusal ts) 0

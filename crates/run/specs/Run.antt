@@ -5,6 +5,12 @@ use Prim.Native.Nat.{ℕ, _+_, _*_, _-_, _/_}
 use lib.Dec.{leb, ltb}
 use Rattle.series.specs.Series.{Formula, rowCount, rowAt, termCount, rangeSum}
 
+-- A ticket of a run, with the sum that is offered for it.
+pub record Entry : Type 0 where
+  pub row : ℕ
+  pub block : ℕ
+  pub sum : ℕ
+
 -- What a formula sets for its runs beside the terms: how many rows there are, and the last position.
 pub record Limits : Type 0 where
   pub rows : ℕ

@@ -1,9 +1,13 @@
 // Runs, blocks and tickets, and the refusal table.
 use series::Series;
 ghost use mathlib.Core.Path.{_≡_};
+ghost use Prim.Native.Nat.{_^_, _≤_, _<_};
 ghost use Rattle.series.specs.Names.{formulaOf};
+ghost use Rattle.run.specs.Refusal.{tested};
 ghost use Rattle.run.specs.Run.{limitsOf, inRange, isTicket};
-ghost use Rattle.run.specs.Answers.{numberOf};
+ghost use Rattle.run.specs.Run as definition;
+ghost use Rattle.run.specs.Tests.{ofTicket};
+ghost use Rattle.run.specs.Answers.{numberOf, answerOf};
 
 // The refusals that document 01 numbers from 1 to 9.
 pub enum Refusal {
@@ -41,6 +45,15 @@ pub fn number_of(r: Refusal) -> u64
     }
 }
 
+// The first term of block i, where c blocks share `count` terms: floor(i * count / c).
+// The product may have 69 bits, so the quotient and the remainder of `count` are taken apart.
+pub fn bound(count: u64, c: u64, i: u64) -> u64
+    requires { ⌜ (count < 2 ^ 63) × (1 ≤ c) × (c ≤ 256) × (i ≤ c) ⌝ }
+    ensures { λ r. ⌜ r ≡ definition.bound count c i ⌝ }
+{
+    i * (count / c) + i * (count % c) / c
+}
+
 // Whether p and c are those of a run.
 pub fn in_range(f: Series, p: u64, c: u64) -> bool
     ensures { λ r. ⌜ r ≡ inRange (limitsOf (formulaOf f)) p c ⌝ }
@@ -66,4 +79,17 @@ pub fn is_ticket(f: Series, c: u64, row: u64, block: u64) -> bool
     } else {
         false
     }
+}
+
+// What the refusal table says of a run and one of its tickets.
+pub fn test_ticket(f: Series, p: u64, c: u64, row: u64, block: u64) -> Answer
+    ensures { λ r. ⌜ answerOf r ≡ tested (ofTicket (limitsOf (formulaOf f)) p c row block) ⌝ }
+{
+    if !in_range(f, p, c) {
+        return Answer::Refused(Refusal::OutOfRange);
+    }
+    if !is_ticket(f, c, row, block) {
+        return Answer::Refused(Refusal::NoTicket);
+    }
+    Answer::Finished(0)
 }

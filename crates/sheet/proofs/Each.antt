@@ -12,7 +12,7 @@ use lib.Dec.{ltb}
 use lib.ListN.{length, getD}
 use Rattle.algebra.specs.Test.{allBelow}
 use Rattle.algebra.proofs.Below.{all-true, all-at, all-ext, below-false, below-front}
-use Rattle.ledger.specs.Plain.{Entry}
+use Rattle.run.specs.Run.{Entry}
 use Rattle.sheet.specs.Sheet.{rowIn, blockIn, sumIn, entriesFrom, every, key, ascending}
 use Rattle.sheet.proofs.Many.{count-entries}
 

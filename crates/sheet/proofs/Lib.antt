@@ -1,10 +1,9 @@
-pub mod Simulation
+pub mod Form
 pub mod Many
 pub mod Sheets
-pub mod RoundTrip
+pub mod Again
 pub mod Each
-pub mod Testing
+pub mod Pairs
 pub mod Over
-pub mod Admitting
-pub mod PostTests
-pub mod Singles
+pub mod ReadTests
+pub mod Writable

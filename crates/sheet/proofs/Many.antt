@@ -13,11 +13,10 @@ use lib.Dec.{leb, ltb}
 use lib.ListN.{length}
 use Rattle.algebra.proofs.Booleans.{and-left, and-right}
 use Rattle.series.specs.Series.{Formula}
-use Rattle.run.specs.Run.{Limits, isTicket}
+use Rattle.run.specs.Run.{Entry, Limits, isTicket}
 use Rattle.run.proofs.Range.{ticket-row, ticket-block}
-use Rattle.ledger.specs.Plain.{Entry}
 use Rattle.sheet.specs.Sheet.{every, allTickets, key, ascending, wellFormed, sheetBlocks, sheetCount, entriesFrom, entries, listed}
-use Rattle.sheet.proofs.Simulation.{formed}
+use Rattle.sheet.proofs.Form.{formed}
 
 -- values that ascend strictly below N are at most N
 module _ (lim : Limits) (C : ℕ) (place : Entry → ℕ) (N : ℕ)

@@ -9,11 +9,11 @@ use native.Mathlib.Omega.{arith}
 use lib.ListN.{length, getD, take, drop, length-append, take-append-drop}
 use lib.Seq.{take-at, take-all, take-suc, drop-at, drop-drop, length-take-le}
 use Rattle.words.specs.Bytes.{bytesOf}
-use Rattle.ledger.specs.Plain.{Entry}
-use Rattle.sheet.specs.Sheet.{key, contentsOf, bodiesOf, listOf}
+use Rattle.run.specs.Run.{Entry}
+use Rattle.sheet.specs.Sheet.{key, line, contentsOf, bodiesOf, listOf}
 use Rattle.sheet.specs.Calls.{over}
 use Rattle.sheet.proofs.Sheets.{length-contents}
-use Rattle.sheet.proofs.RoundTrip.{length-list, length-bodies}
+use Rattle.sheet.proofs.Again.{length-list, length-bodies}
 use Rattle.sheet.proofs.Each.{nothing}
 
 -- x written after what is written already, which is n bytes
@@ -49,10 +49,6 @@ bodies-next (u ∷ ts) t =
 pub bodies : Entrywise bodiesOf (λ t. bytesOf 16 (t .sum)) 16
 unfolding bodiesOf
 bodies = record { none = refl; next = bodies-next; size = length-bodies }
-
--- the four bytes of an entry of the contents
-abbrev pub line : ℕ → ℕ → List ℕ
-line row block = row ∷ 0 ∷ bytesOf 2 block
 
 contents-next : (ts : List Entry) (t : Entry) → contentsOf (ts ++ (t ∷ [])) ≡ contentsOf ts ++ line (t .row) (t .block)
 unfolding contentsOf

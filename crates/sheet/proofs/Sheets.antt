@@ -9,7 +9,7 @@ use lib.ListN.{length, getD, take, drop}
 use lib.Seq.{drop-drop, getD-drop, drop-cons, take-add, take-all, drop-append-seam}
 use Rattle.words.specs.Bytes.{bytesOf, valueOf, field, AllBytes}
 use Rattle.words.proofs.Bytes.{value-bytes, field-again, part-join}
-use Rattle.ledger.specs.Plain.{Entry}
+use Rattle.run.specs.Run.{Entry}
 use Rattle.sheet.specs.Sheet.{sheetCount, sheetPos, sheetBlocks, rowIn, blockIn, sumIn, entriesFrom, entries, contentsOf, bodiesOf, sheetOf}
 use Rattle.sheet.proofs.Many.{count-entries}
 

@@ -1,5 +1,3 @@
 pub mod Sheet
-pub mod Calls
-pub mod Posts
-pub mod RoundTrip
 pub mod Tests
+pub mod Calls

@@ -7,8 +7,7 @@ use lib.ListN.{length, getD}
 use Rattle.algebra.specs.Test.{allBelow}
 use Rattle.words.specs.Bytes.{bytesOf, field}
 use Rattle.series.specs.Series.{Formula}
-use Rattle.run.specs.Run.{Limits, isTicket, ticketSum}
-use Rattle.ledger.specs.Plain.{Entry}
+use Rattle.run.specs.Run.{Entry, Limits, isTicket, ticketSum}
 
 -- ---- sizes: 16 bytes and 20 for each ticket, of which a run has 256 in each row at the most
 
@@ -79,9 +78,13 @@ wellFormed s =
 
 -- ---- writing
 
+-- the four bytes of an entry of the contents
+abbrev pub line : ℕ → ℕ → List ℕ
+line row block = row ∷ 0 ∷ bytesOf 2 block
+
 unfoldable pub contentsOf : List Entry → List ℕ
 contentsOf [] = []
-contentsOf (t ∷ ts) = t .row ∷ 0 ∷ bytesOf 2 (t .block) ++ contentsOf ts
+contentsOf (t ∷ ts) = line (t .row) (t .block) ++ contentsOf ts
 
 unfoldable pub bodiesOf : List Entry → List ℕ
 bodiesOf [] = []

@@ -1,29 +1,29 @@
--- Parts of the tests of sheets that the code takes one at a time.
-use mathlib.Core.Path.{_≡_}
-use mathlib.Core.Bool.{Bool, true, not}
-use mathlib.Core.List.{List, [], _∷_}
-use Prim.Native.Nat.{ℕ}
+-- What is asked of a sheet's bytes, and of a list: their sizes, and then run, form and tickets.
+use mathlib.Core.Bool.{Bool, _&&_}
+use mathlib.Core.List.{List, _++_}
+use Prim.Native.Nat.{ℕ, _%_}
+use lib.Dec.{leb, eqb}
 use lib.ListN.{length}
-use Rattle.run.specs.Refusal.{Test, _⇐_}
-use Rattle.run.specs.Run.{Limits, inRange}
-use Rattle.ledger.specs.Ledger.{ledgerSize, bitIn}
-use Rattle.ledger.specs.Plain.{Entry}
-use Rattle.sheet.specs.Sheet.{sheetLength, sheetPos, sheetBlocks, sheetCount, entries, every, allTickets, ascending, wellFormed}
+use Rattle.series.specs.Series.{Formula}
+use Rattle.run.specs.Refusal.{Test}
+use Rattle.run.specs.Run.{Limits, limitsOf}
+use Rattle.run.specs.Tests.{ofRun, ofForm, ofTickets}
+use Rattle.sheet.specs.Sheet.{sheetMost, listMost, sheetPos, sheetBlocks, entries, allTickets, ascending, wellFormed, listed}
 
--- the tests that reading and posting share: those on a sheet's bytes alone, from 2 on
-abbrev pub byteTests : Limits → List ℕ → List Test
-byteTests lim s =
-    (2 ⇐ not (inRange lim (sheetPos s) (sheetBlocks s))) ∷ (3 ⇐ not (wellFormed s))
-    ∷ (4 ⇐ not (allTickets lim (sheetBlocks s) (entries s))) ∷ []
+-- ---- a sheet
 
--- the bit of a ticket is not set
-abbrev pub unset : Limits → List ℕ → Entry → Bool
-unset lim ledger t = not (bitIn lim ledger (t .row) (t .block))
+unfoldable pub sheetSized : Limits → List ℕ → Bool
+sheetSized lim s = leb 16 (length s) && leb (length s) (sheetMost lim)
 
--- what has been tested before a sheet's tickets are entered: their rows and blocks have a place in the ledger, whatever its C
-pub record Enterable (lim : Limits) (ledger s : List ℕ) : Type 0 where
-  pub whole : length s ≡ sheetLength (sheetCount s)
-  pub ascends : ascending (entries s) ≡ true
-  pub sized : length ledger ≡ ledgerSize lim
-  pub placed : allTickets lim 256 (entries s) ≡ true
-  pub new : every (unset lim ledger) (entries s) ≡ true
+abbrev pub ofSheet : Limits → List ℕ → List Test
+ofSheet lim s =
+    ofRun lim (sheetPos s) (sheetBlocks s) ++ ofForm (wellFormed s) ++ ofTickets (allTickets lim (sheetBlocks s) (entries s))
+
+-- ---- a list, for the run p, C
+
+unfoldable pub listSized : Limits → List ℕ → Bool
+listSized lim list = eqb (length list % 2) 0 && leb (length list) (listMost lim)
+
+abbrev pub ofList : Formula → ℕ → ℕ → List ℕ → List Test
+ofList F p C list =
+    ofRun (limitsOf F) p C ++ ofForm (ascending (listed F p C list)) ++ ofTickets (allTickets (limitsOf F) C (listed F p C list))

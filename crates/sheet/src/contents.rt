@@ -1,4 +1,4 @@
-// The bytes of a sheet: its count, its entries, and the tests that reading and posting share.
+// The bytes of a sheet: its count, its entries, and what is asked of them.
 use run::Answer;
 use run::Refusal;
 use series::Series;
@@ -8,11 +8,11 @@ ghost use lib.Dec.{eqb};
 ghost use lib.ListN.{length, getD};
 ghost use Rattle.algebra.specs.Test.{allBelow};
 ghost use Rattle.series.specs.Names.{formulaOf};
-ghost use Rattle.run.specs.Refusal.{refusal, answer};
+ghost use Rattle.run.specs.Refusal.{tested};
 ghost use Rattle.run.specs.Run.{limitsOf};
 ghost use Rattle.run.specs.Answers.{answerOf};
 ghost use Rattle.sheet.specs.Sheet.{sheetMost, sheetCount, rowIn, blockIn, entriesFrom, allTickets, wellFormed};
-ghost use Rattle.sheet.specs.Tests.{byteTests};
+ghost use Rattle.sheet.specs.Tests.{sheetSized, ofSheet};
 ghost use Rattle.sheet.specs.Sheet as definition;
 
 // The most bytes that a sheet can have.
@@ -20,6 +20,16 @@ pub fn sheet_most(f: Series) -> usize
     ensures { λ r. ⌜ r ≡ sheetMost (limitsOf (formulaOf f)) ⌝ }
 {
     16 + 5120 * series::formula::row_count(f)
+}
+
+// Whether a sheet has a size that a sheet can have.
+pub fn sized(f: Series, s: &[u8]) -> bool
+    ensures { λ r. ⌜ r ≡ sheetSized (limitsOf (formulaOf f)) (now (s .entry)) ⌝ }
+{
+    if s.len() < 16 {
+        return false;
+    }
+    s.len() <= sheet_most(f)
 }
 
 // How many tickets the head counts.
@@ -117,10 +127,10 @@ pub fn all_tickets(f: Series, s: &[u8], c: u64, e: usize) -> bool
     true
 }
 
-// The tests of the refusal table on a sheet's bytes alone, from 2 on, in the order of their numbers.
-pub fn test_bytes(f: Series, s: &[u8]) -> Answer
+// What the refusal table says of a sheet that has its size: its run, its form and its tickets.
+pub fn test_sheet(f: Series, s: &[u8]) -> Answer
     requires { ⌜ 16 ≤ length (now s) ⌝ }
-    ensures { λ r. ⌜ answerOf r ≡ answer (refusal (byteTests (limitsOf (formulaOf f)) (now (s .entry)))) 0 ⌝ }
+    ensures { λ r. ⌜ answerOf r ≡ tested (ofSheet (limitsOf (formulaOf f)) (now (s .entry))) ⌝ }
 {
     let c = words::get(s, 8, 2);
     if !run::in_range(f, words::get(s, 0, 8), c) {

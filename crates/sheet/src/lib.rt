@@ -1,4 +1,5 @@
-// Sheets: reading and posting them.
+// Sheets and lists: what is asked of their bytes, how a sheet is laid out, and reading one.
 pub mod contents;
-pub mod posting;
+pub mod layout;
+pub mod lists;
 pub mod reading;

@@ -16,12 +16,11 @@ ghost use Rattle.sheet.specs.Calls.{over, readCall};
 
 // What the refusal table says of reading: its tests in the order of their numbers.
 pub fn test_read(f: Series, s: &[u8], list: &[u8], sums: &[u8]) -> Answer
-    ensures { λ r. ⌜ answerOf r ≡ answered (readCall (limitsOf (formulaOf f)) (now (s .entry)) (now (list .entry)) (now (sums .entry))) ⌝ }
+    ensures { λ r. ⌜
+        answerOf r ≡ answered (readCall (limitsOf (formulaOf f)) (now (s .entry)) (now (list .entry)) (now (sums .entry)))
+        ⌝ }
 {
-    if s.len() < 16 {
-        return Answer::Refused(Refusal::WrongSize);
-    }
-    if contents::sheet_most(f) < s.len() {
+    if !contents::sized(f, s) {
         return Answer::Refused(Refusal::WrongSize);
     }
     let e = contents::count(s);
@@ -31,7 +30,7 @@ pub fn test_read(f: Series, s: &[u8], list: &[u8], sums: &[u8]) -> Answer
     if sums.len() < 16 * e {
         return Answer::Refused(Refusal::WrongSize);
     }
-    match contents::test_bytes(f, s) {
+    match contents::test_sheet(f, s) {
         Answer::Finished(_) => Answer::Finished(e as u32),
         Answer::Refused(r) => Answer::Refused(r),
     }
@@ -63,7 +62,10 @@ pub fn put_sums(s: &[u8], e: usize, sums: &mut [u8])
 
 // Reads a sheet. All tests are done before a byte is written.
 pub fn read(f: Series, s: &[u8], list: &mut [u8], sums: &mut [u8]) -> Answer
-    ensures { λ r. ⌜ Does (readCall (limitsOf (formulaOf f)) (now (s .entry)) (now (list .entry)) (now (sums .entry))) (answerOf r) (now (list .exit) ∷ now (sums .exit) ∷ []) ⌝ }
+    ensures { λ r. ⌜
+        Does (readCall (limitsOf (formulaOf f)) (now (s .entry)) (now (list .entry)) (now (sums .entry))) (answerOf r)
+        (now (list .exit) ∷ now (sums .exit) ∷ [])
+        ⌝ }
 {
     match test_read(f, s, list, sums) {
         Answer::Finished(e) => {

@@ -4,57 +4,35 @@ use mathlib.Core.Path.{_≡_, refl, ap, ap₂, _∙_}
 use mathlib.Core.Bool.{Bool, true, false}
 use mathlib.Core.List.{List, [], _∷_, _++_}
 use Prim.Native.Nat.{ℕ, _+_}
-use borrow.Author.Tests.{not-false, eqb-true}
+use borrow.Author.Tests.{eqb-true}
 use lib.IntN.{pos, negsuc}
 use lib.ListN.{length, take, drop}
 use Rattle.algebra.proofs.Booleans.{and-left, and-right}
 use Rattle.words.specs.Bytes.{bytesOf}
 use Rattle.words.proofs.Bytes.{over-all}
 use Rattle.series.specs.Series.{Formula}
-use Rattle.run.specs.Refusal.{refusal}
+use Rattle.run.specs.Refusal.{refusal, answer, tested}
 use Rattle.run.specs.Run.{limitsOf, inRange, isTicket}
+use Rattle.run.specs.Tests.{ofTicket}
 use Rattle.run.specs.Answers.{answerOf}
 use Rattle.run.specs.declared.Refusal.{Refusal}
 use Rattle.run.specs.declared.Answer.{Answer}
 use Rattle.run.specs.declared.Answer.the-variants.{Finished, Refused}
 use Rattle.run.specs.Call.{refusedBy, answered, Does}
-use Rattle.run.proofs.Answering.{passes}
-use Rattle.run.proofs.Calls.{refuses, finishes, was-worked, works, turned-down}
+use Rattle.run.proofs.Testing.{passed, part-passes, ticket-passed}
+use Rattle.run.proofs.Calls.{works, turned-down}
 use Rattle.ticket.specs.Parts.{partSum, partSquarings}
 use Rattle.ticket.specs.declared.Part.{Part}
-use Rattle.ticket.specs.Work.{isSized, bothSized, testCall, workCall, quoteCall}
+use Rattle.ticket.specs.Work.{isSized, bothSized, partTests, workCall, quoteCall}
 
 module _ (F : Formula) (p C row block : ℕ) (sized : Bool) where
-  -- ---- the tests one by one
+  pub wrong-size : sized ≡ false → negsuc 0 ≡ tested (partTests F p C row block sized)
+  unfolding partTests refusal answer
+  wrong-size s = rw s refl
 
-  pub wrong-size : sized ≡ false → negsuc 0 ≡ answered (testCall F p C row block sized)
-  unfolding testCall refusedBy refusal
-  wrong-size s = refuses (testCall F p C row block sized) 0 (rw s refl) .0
-
-  module _ (s : sized ≡ true) where
-    pub out-of-range : inRange (limitsOf F) p C ≡ false → negsuc 1 ≡ answered (testCall F p C row block sized)
-    unfolding testCall refusedBy refusal
-    out-of-range r = refuses (testCall F p C row block sized) 1 (rw (s, r) refl) .0
-
-    module _ (r : inRange (limitsOf F) p C ≡ true) where
-      pub no-ticket : isTicket (limitsOf F) C row block ≡ false → negsuc 3 ≡ answered (testCall F p C row block sized)
-      unfolding testCall refusedBy refusal
-      no-ticket t = refuses (testCall F p C row block sized) 3 (rw (s, r, t) refl) .0
-
-      pub none-answers : isTicket (limitsOf F) C row block ≡ true → pos 0 ≡ answered (testCall F p C row block sized)
-      unfolding testCall refusedBy refusal
-      none-answers t = finishes (testCall F p C row block sized) (rw (s, r, t) refl) .0
-
-  -- ---- what they found
-
-  pub all-passed : refusedBy (testCall F p C row block sized) ≡ 0
-      → (sized ≡ true) × (inRange (limitsOf F) p C ≡ true) × (isTicket (limitsOf F) C row block ≡ true)
-  unfolding testCall refusedBy
-  all-passed e =
-      let size = passes 0 _ _ e in
-      let range = passes 1 _ _ (size .1) in
-      let ticket = passes 3 _ _ (range .1) in
-      (not-false _ (size .0), not-false _ (range .0), not-false _ (ticket .0))
+  pub by-ticket : sized ≡ true → tested (ofTicket (limitsOf F) p C row block) ≡ tested (partTests F p C row block sized)
+  unfolding partTests refusal
+  by-ticket s = rw s refl
 
 -- a slice written over
 wrote : (x y : ℕ) (s s₁ : List ℕ) → length s ≡ 16 → x ≡ y → s₁ ≡ take 0 s ++ bytesOf 16 x ++ drop (0 + 16) s → s₁ ≡ bytesOf 16 y
@@ -67,22 +45,23 @@ has-size s e = eqb-true (length s) 16 e
 -- ---- working
 
 module _ (F : Formula) (p C row block : ℕ) (out squarings : List ℕ) (b : Bool) (s : b ≡ bothSized out squarings)
-    (a : Answer) (e : answerOf a ≡ answered (testCall F p C row block b)) where
-  tested : answerOf a ≡ answered (testCall F p C row block (bothSized out squarings))
-  tested = e ∙ ap (λ (sized : Bool). answered (testCall F p C row block sized)) s
+    (a : Answer) (e : answerOf a ≡ tested (partTests F p C row block b)) where
+  made : answerOf a ≡ tested (partTests F p C row block (bothSized out squarings))
+  made = e ∙ ap (λ (sized : Bool). tested (partTests F p C row block sized)) s
 
   pub to-work : (v : ℕ) → a ≡ Finished v → (length out ≡ 16) × (length squarings ≡ 16)
       × (inRange (limitsOf F) p C ≡ true) × (isTicket (limitsOf F) C row block ≡ true)
-  unfolding bothSized
+  unfolding partTests bothSized
   to-work v f =
-      let t = all-passed F p C row block (bothSized out squarings) (was-worked _ a tested v f .0) in
-      (has-size out (and-left (isSized out) _ (t .0)), has-size squarings (and-right (isSized out) _ (t .0)), t .1, t .2)
+      let sizes = passed 0 _ _ (part-passes _ a made v f) in
+      let t = ticket-passed (limitsOf F) p C row block [] (sizes .1) in
+      (has-size out (and-left (isSized out) _ (sizes .0)), has-size squarings (and-right (isSized out) _ (sizes .0)), t .0, t .1)
 
   module _ (part : Part) where
     -- working is tested so, whatever the part
     so-tested : answerOf a ≡ answered (workCall F part p C row block out squarings)
-    unfolding testCall workCall refusedBy answered
-    so-tested = tested
+    unfolding workCall refusedBy answered
+    so-tested = made
 
     pub worked : (v : ℕ) → a ≡ Finished v → (x y : ℕ) (out₁ squarings₁ : List ℕ)
         → (x ≡ partSum F part p C row block) × (y ≡ partSquarings F part p C row block)
@@ -101,18 +80,20 @@ module _ (F : Formula) (p C row block : ℕ) (out squarings : List ℕ) (b : Boo
 -- ---- quoting
 
 module _ (F : Formula) (p C row block : ℕ) (out : List ℕ) (b : Bool) (s : b ≡ isSized out) (a : Answer)
-    (e : answerOf a ≡ answered (testCall F p C row block b)) where
-  asked : answerOf a ≡ answered (testCall F p C row block (isSized out))
-  asked = e ∙ ap (λ (sized : Bool). answered (testCall F p C row block sized)) s
+    (e : answerOf a ≡ tested (partTests F p C row block b)) where
+  asked : answerOf a ≡ tested (partTests F p C row block (isSized out))
+  asked = e ∙ ap (λ (sized : Bool). tested (partTests F p C row block sized)) s
 
   pub to-quote : (v : ℕ) → a ≡ Finished v → (length out ≡ 16) × (inRange (limitsOf F) p C ≡ true) × (isTicket (limitsOf F) C row block ≡ true)
+  unfolding partTests
   to-quote v f =
-      let t = all-passed F p C row block (isSized out) (was-worked _ a asked v f .0) in
-      (has-size out (t .0), t .1, t .2)
+      let size = passed 0 _ _ (part-passes _ a asked v f) in
+      let t = ticket-passed (limitsOf F) p C row block [] (size .1) in
+      (has-size out (size .0), t .0, t .1)
 
   module _ (part : Part) where
     so-asked : answerOf a ≡ answered (quoteCall F part p C row block out)
-    unfolding testCall quoteCall refusedBy answered
+    unfolding quoteCall refusedBy answered
     so-asked = asked
 
     pub quoted : (v : ℕ) → a ≡ Finished v → (x : ℕ) (out₁ : List ℕ) → x ≡ partSquarings F part p C row block

@@ -2,16 +2,17 @@
 -- three calls are refused alike, so that they have one list of tests and one answer. A quote gives the squarings alone, and is refused as
 -- working is (document 02, slip 7).
 use mathlib.Core.Path.{refl}
-use mathlib.Core.Bool.{Bool, not, _&&_}
-use mathlib.Core.List.{List, [], _∷_}
+use mathlib.Core.Bool.{Bool, _&&_}
+use mathlib.Core.List.{List, [], _∷_, _++_}
 use Prim.Native.Nat.{ℕ}
 use lib.Dec.{eqb}
 use lib.ListN.{length}
 use Rattle.words.specs.Bytes.{bytesOf}
 use Rattle.series.specs.Series.{Formula}
-use Rattle.run.specs.Refusal.{Test, _⇐_}
+use Rattle.run.specs.Refusal.{Test}
 use Rattle.run.specs.Call.{Call, slice}
-use Rattle.run.specs.Run.{limitsOf, inRange, isTicket}
+use Rattle.run.specs.Run.{limitsOf}
+use Rattle.run.specs.Tests.{ofSizes, ofTicket}
 use Rattle.ticket.specs.Parts.{partSum, partSquarings}
 use Rattle.ticket.specs.declared.Part.{Part}
 
@@ -20,18 +21,14 @@ unfoldable pub isSized : List ℕ → Bool
 isSized s = eqb (length s) 16
 
 -- the tests of working and of quoting, where `sized` says that each slice lent has its size
-abbrev pub partTests : Formula → ℕ → ℕ → ℕ → ℕ → Bool → List Test
-partTests F p C row block sized =
-    (1 ⇐ not sized) ∷ (2 ⇐ not (inRange (limitsOf F) p C)) ∷ (4 ⇐ not (isTicket (limitsOf F) C row block)) ∷ []
-
--- the tests alone: a call that is lent nothing
-unfoldable pub testCall : Formula → ℕ → ℕ → ℕ → ℕ → Bool → Call
-testCall F p C row block sized = record { tests = partTests F p C row block sized; in-order = refl; value = 0; slices = [] }
+unfoldable pub partTests : Formula → ℕ → ℕ → ℕ → ℕ → Bool → List Test
+partTests F p C row block sized = ofSizes sized ++ ofTicket (limitsOf F) p C row block
 
 unfoldable pub bothSized : List ℕ → List ℕ → Bool
 bothSized out squarings = isSized out && isSized squarings
 
 unfoldable pub workCall : Formula → Part → ℕ → ℕ → ℕ → ℕ → List ℕ → List ℕ → Call
+unfolding partTests
 workCall F part p C row block out squarings = record {
   tests = partTests F p C row block (bothSized out squarings);
   in-order = refl;
@@ -40,6 +37,7 @@ workCall F part p C row block out squarings = record {
 }
 
 unfoldable pub quoteCall : Formula → Part → ℕ → ℕ → ℕ → ℕ → List ℕ → Call
+unfolding partTests
 quoteCall F part p C row block squarings = record {
   tests = partTests F p C row block (isSized squarings);
   in-order = refl;

@@ -7,30 +7,21 @@ use words::Wide;
 ghost use mathlib.Core.Path.{_≡_};
 ghost use mathlib.Core.List.{[], _∷_};
 ghost use mathlib.Core.Bool.{true};
-ghost use Prim.Native.Nat.{_^_, _≤_, _<_};
+ghost use Prim.Native.Nat.{_<_};
 ghost use Rattle.words.specs.Words.{joined};
 ghost use Rattle.series.specs.Names.{formulaOf};
+ghost use Rattle.run.specs.Refusal.{tested};
 ghost use Rattle.run.specs.Run.{limitsOf, inRange, isTicket};
-ghost use Rattle.run.specs.Run as definition;
 ghost use Rattle.run.specs.Answers.{answerOf};
-ghost use Rattle.run.specs.Call.{answered, Does};
+ghost use Rattle.run.specs.Call.{Does};
 ghost use Rattle.ticket.specs.Parts.{partFirst, partEnd, partSum, partSquarings};
-ghost use Rattle.ticket.specs.Work.{isSized, bothSized, testCall, workCall, quoteCall};
+ghost use Rattle.ticket.specs.Work.{isSized, bothSized, partTests, workCall, quoteCall};
 
 // Which of a ticket's terms are worked: all of them, or those below or from the cut on.
 pub enum Part {
     Whole,
     Lower,
     Upper,
-}
-
-// The first term of block i, where c blocks share `count` terms: floor(i * count / c).
-// The product may have 69 bits, so the quotient and the remainder of `count` are taken apart.
-pub fn bound(count: u64, c: u64, i: u64) -> u64
-    requires { ⌜ (count < 2 ^ 63) × (1 ≤ c) × (c ≤ 256) × (i ≤ c) ⌝ }
-    ensures { λ r. ⌜ r ≡ definition.bound count c i ⌝ }
-{
-    i * (count / c) + i * (count % c) / c
 }
 
 // Terms from `first` up to, not including, `end`.
@@ -45,8 +36,8 @@ pub fn range_of(f: Series, part: Part, p: u64, c: u64, block: u64) -> Range
     ensures { λ r. ⌜ (r .first ≡ partFirst (formulaOf f) part p c block) × (r .end ≡ partEnd (formulaOf f) part p c block) ⌝ }
 {
     let count = series::terms::term_count(f, p);
-    let first = bound(count, c, block);
-    let end = bound(count, c, block + 1);
+    let first = run::bound(count, c, block);
+    let end = run::bound(count, c, block + 1);
     let cut = (first + end) / 2;
     match part {
         Part::Whole => Range { first, end },
@@ -78,18 +69,12 @@ pub fn squarings(f: Series, part: Part, p: u64, c: u64, row: u64, block: u64) ->
 
 // What the refusal table says of working and of quoting: its tests in the order of their numbers.
 pub fn test_part(f: Series, p: u64, c: u64, row: u64, block: u64, sized: bool) -> Answer
-    ensures { λ r. ⌜ answerOf r ≡ answered (testCall (formulaOf f) p c row block sized) ⌝ }
+    ensures { λ r. ⌜ answerOf r ≡ tested (partTests (formulaOf f) p c row block sized) ⌝ }
 {
     if !sized {
         return Answer::Refused(Refusal::WrongSize);
     }
-    if !run::in_range(f, p, c) {
-        return Answer::Refused(Refusal::OutOfRange);
-    }
-    if !run::is_ticket(f, c, row, block) {
-        return Answer::Refused(Refusal::NoTicket);
-    }
-    Answer::Finished(0)
+    run::test_ticket(f, p, c, row, block)
 }
 
 // Whether a slice for a sum or for squarings has its size.

@@ -3,6 +3,7 @@
 use mathlib.Core.Path.{sym, _∙_}
 use borrow.Author.Needs.{needs}
 use borrow.Author.Tests.{not-true, not-false}
+use Rattle.run.proofs.Range.{range-of}
 use Rattle.ledger.proofs.Inspect.{no-run, not-zero, by-rows}
 use Rattle.ledger.proofs.in_order.Statement.{statement}
 use Rattle.ledger.proofs.in_order.Tie as tie
@@ -30,15 +31,18 @@ returns-2 c =
     not-zero _ _ _ _ (range .before .before .get .ensures) (range .before .get2 .ensures) _
     (sym (range .in-range .ensures) ∙ not-false _ (c .before .before .if1 .left)) (c .before .get3 .ensures) (c .if2 .taken)
 
-rows-clear-requires : tie.Need-rows-clear-requires
-rows-clear-requires c κs = search needs
+none-from-requires : tie.Need-none-from-requires
+none-from-requires c κs = 
+    let zero = c .before in
+    let range = zero .before .before in
+    (search needs, range-of _ _ _ (sym (range .in-range .ensures) ∙ not-false _ (zero .before .if1 .left)) .C-high)
 
 returns-3 : tie.Need-returns-3
 returns-3 c =
     let zero = c .before .before in
     let range = zero .before .before in
     by-rows _ _ _ _ (range .before .before .get .ensures) (range .before .get2 .ensures) _ _
-    (sym (range .in-range .ensures) ∙ not-false _ (zero .before .if1 .left)) (zero .get3 .ensures) (c .before .if2 .left) (c .rows-clear .ensures)
+    (sym (range .in-range .ensures) ∙ not-false _ (zero .before .if1 .left)) (zero .get3 .ensures) (c .before .if2 .left) (c .none-from .ensures)
 
 pub in-order-spec : {M : Type 1} → statement M
 in-order-spec =
@@ -50,5 +54,5 @@ in-order-spec =
     returns
     get-requires-3
     returns-2
-    rows-clear-requires
+    none-from-requires
     returns-3)

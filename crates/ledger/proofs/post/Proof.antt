@@ -7,8 +7,8 @@ use Rattle.ledger.proofs.Posting.{block-low, none-applied, posted, not-
 use Rattle.ledger.proofs.post.Statement.{statement}
 use Rattle.ledger.proofs.post.Tie as tie
 
-test-ticket-requires : tie.Need-test-ticket-requires
-test-ticket-requires c κs = search needs
+test-post-requires : tie.Need-test-post-requires
+test-post-requires c κs = search needs
 
 enum-told : tie.Need-enum-told
 enum-told c = search needs
@@ -16,12 +16,12 @@ enum-told c = search needs
 get-wide-requires : tie.Need-get-wide-requires
 get-wide-requires c κs =
     let told = c .before in
-    omega (arith, none-applied _ _ _ _ _ _ _ _ (told .before .before .test-ticket .ensures) _ (told .enum-told .given .1) .sum-sized)
+    omega (arith, none-applied _ _ _ _ _ _ _ _ (told .before .before .test-post .ensures) _ (told .enum-told .given .1) .sum-sized)
 
 enter-requires : tie.Need-enter-requires
 enter-requires c κs =
     let told = c .before .before in
-    let h = none-applied _ _ _ _ _ _ _ _ (told .before .before .test-ticket .ensures) _ (told .enum-told .given .1) in
+    let h = none-applied _ _ _ _ _ _ _ _ (told .before .before .test-post .ensures) _ (told .enum-told .given .1) in
     record { sized = h .sized; row-in = ticket-row _ _ _ _ (h .ticket); block-in = block-low h; new = h .unset }
 
 enum-known-r : tie.Need-enum-known-r
@@ -34,20 +34,20 @@ returns : tie.Need-returns
 returns c =
     let entered = c .before .before in
     let told = entered .before .before .before in
-    posted _ _ _ _ _ _ _ _ (told .before .before .test-ticket .ensures) _ _ _ (told .enum-told .given .1) (entered .before .get-wide .ensures)
+    posted _ _ _ _ _ _ _ _ (told .before .before .test-post .ensures) _ _ _ (told .enum-told .given .1) (entered .before .get-wide .ensures)
     (entered .enter .ensures)
 
 same-length-2 : tie.Need-same-length-2
 same-length-2 c = search needs
 
 returns-2 : tie.Need-returns-2
-returns-2 c = not-posted _ _ _ _ _ _ _ _ (c .before .before .before .test-ticket .ensures) _ (c .before .r .given .1)
+returns-2 c = not-posted _ _ _ _ _ _ _ _ (c .before .before .before .test-post .ensures) _ (c .before .r .given .1)
 
 pub post-spec : {M : Type 1} → statement M
 post-spec =
     tie.close
     (tie.spec
-    test-ticket-requires
+    test-post-requires
     enum-told
     get-wide-requires
     enter-requires

@@ -14,7 +14,7 @@ use Rattle.series.proofs.formula.row_count.Reads as row-count-reads
 use Rattle.run.specs.Run.{limitsOf}
 use Rattle.run.specs.Call.{bytesLeft}
 use Rattle.ledger.specs.Ledger.{blocksIn}
-use Rattle.sheet.specs.Calls.{sheetPostCall}
+use Rattle.posting.specs.Calls.{sheetPostCall}
 use Rattle.sheet.proofs.contents.count.Reads as count-reads
 use Rattle.look.specs.Look.{unmarkedIn}
 use Rattle.look.proofs.Posted.{is-taken, all-tickets}
@@ -22,7 +22,7 @@ use Rattle.look.proofs.remaining.Statement.{statement}
 use Rattle.look.proofs.remaining.Tie as tie
 use Rattle.look.proofs.remaining.Reads as reads
 use Rattle.look.proofs.remaining.Lts as lts
-use Rattle.look.proofs.marks.Reads as marks-reads
+use Rattle.ledger.proofs.marks.count.Reads as marks-reads
 
 -- what is known after the counting: the tickets by their kinds, and that there are few
 record Counted (r C e m rest : ℕ) : Type 0 where
@@ -30,11 +30,11 @@ record Counted (r C e m rest : ℕ) : Type 0 where
   wide : r * C ≤ r * 256
   few : r ≤ 7
 
-counted : (c : lts.After-count (get-reads.Asked, get-reads.Learnt, row-count-reads.Asked, row-count-reads.Learnt, marks-reads.Asked, marks-reads.Learnt, count-reads.Asked, count-reads.Learnt) reads.Pre reads.Post)
+counted : (c : lts.After-count2 (get-reads.Asked, get-reads.Learnt, row-count-reads.Asked, row-count-reads.Learnt, marks-reads.Asked, marks-reads.Learnt, count-reads.Asked, count-reads.Learnt) reads.Pre reads.Post)
     → let rows = c .before .before in
     let args = rows .before .before .before .before .args in
     let lim = limitsOf (formulaOf (args .f)) in
-    Counted (rows .row-count .result) (rows .before .get .result) (c .count .result) (c .before .marks .result)
+    Counted (rows .row-count .result) (rows .before .get .result) (c .count2 .result) (c .before .count .result)
     (unmarkedIn lim (bytesLeft (sheetPostCall lim (now (args .ledger)) (now (args .s))) 0))
 unfolding AllBytes blocksIn
 counted c =
@@ -47,7 +47,7 @@ counted c =
     let t = is-taken _ _ _ (start .pre) in
     record {
       all = all-tickets _ (near-positions f) (now (start .args .ledger)) (now (start .args .s)) (λ i. known .shared-slice-known .given i .fits) (start .pre)
-          _ _ _ _ (rows .row-count .ensures) (get .get .ensures) (c .count .ensures .0) (marks .marks .ensures);
+          _ _ _ _ (rows .row-count .ensures) (get .get .ensures) (c .count2 .ensures .0) (marks .count .ensures);
       wide = mul-le-mul-left (rows .row-count .result) (let C = t .few-blocks in let e = get .get .ensures in omega (arith, C, e));
       few = let n = few-rows f in omega (arith, n, rows .row-count .ensures);
     }
@@ -70,14 +70,14 @@ mul-tickets c =
     let wide = mul-le-mul-left (c .row-count .result) few-blocks in
     record { fits = omega (arith, wide, few, c .row-count .ensures) }
 
-marks-requires : tie.Need-marks-requires
-unfolding blocksIn
-marks-requires c κs =
-    let t = is-taken _ _ _ (c .before .before .before .before .pre) in
-    (t .sized, let C = t .few-blocks in let e = c .before .get .ensures in omega (arith, C, e))
-
 count-requires : tie.Need-count-requires
-count-requires c κs = let t = is-taken _ _ _ (c .before .before .before .before .before .pre) .whole in omega (arith, t)
+unfolding blocksIn
+count-requires c κs =
+    let t = is-taken _ _ _ (c .before .before .before .before .pre) in
+    (t .sized, omega arith, let C = t .few-blocks in let e = c .before .get .ensures in omega (arith, C, e))
+
+count-requires-2 : tie.Need-count-requires-2
+count-requires-2 c κs = let t = is-taken _ _ _ (c .before .before .before .before .before .pre) .whole in omega (arith, t)
 
 sub-result : tie.Need-sub-result
 sub-result c = let k = counted c in let all = k .all in let wide = k .wide in omega (arith, all, wide)
@@ -98,8 +98,8 @@ remaining-spec =
     get-requires
     row-count-requires
     mul-tickets
-    marks-requires
     count-requires
+    count-requires-2
     sub-result
     sub-result-2
     cast-result

@@ -12,11 +12,10 @@ use Rattle.algebra.proofs.Below.{all-at}
 use Rattle.words.specs.Bytes.{bytesOf}
 use Rattle.series.specs.Series.{Formula}
 use Rattle.series.specs.Names.{formulaOf}
-use Rattle.run.specs.Run.{Limits, isTicket, ticketSum}
+use Rattle.run.specs.Run.{Entry, Limits, isTicket, ticketSum}
 use Rattle.ticket.proofs.Parts.{whole-sum}
-use Rattle.ledger.specs.Plain.{Entry}
 use Rattle.sheet.specs.Sheet.{allTickets, bodiesOf, listed}
-use Rattle.writer.proofs.Pairs.{pairRow, pairBlock, count, pair-at, tickets-listed}
+use Rattle.sheet.proofs.Pairs.{pairRow, pairBlock, count, pair-at, tickets-listed}
 use Rattle.sheet.proofs.Over.{bodies, over-to, start, turn, finish}
 use Rattle.writer.proofs.put_bodies.Statement.{statement}
 use Rattle.writer.proofs.put_bodies.Tie as tie
@@ -83,20 +82,8 @@ sum-requires c κs =
     let args = given .args in
     (given .pre .2, ticket-at (formulaOf (args .f)) (args .p) (args .c) (now (args .list)) (now (args .out)) (args .e) (given .pre .0) _ (given .pre .3) _ (test .loop-test .taken))
 
-mul-put-wide : tie.Need-mul-put-wide Inv-loop μ-loop
-mul-put-wide c = omega arith
-
-add-put-wide : tie.Need-add-put-wide Inv-loop μ-loop
-add-put-wide c = omega arith
-
-mul-put-wide-2 : tie.Need-mul-put-wide-2 Inv-loop μ-loop
-mul-put-wide-2 c = omega arith
-
-add-put-wide-2 : tie.Need-add-put-wide-2 Inv-loop μ-loop
-add-put-wide-2 c = omega arith
-
-put-wide-requires : tie.Need-put-wide-requires Inv-loop μ-loop
-put-wide-requires c κs = omega arith
+put-body-requires : tie.Need-put-body-requires Inv-loop μ-loop
+put-body-requires c κs = (omega arith, omega arith)
 
 add-i : tie.Need-add-i Inv-loop μ-loop
 add-i c = omega arith
@@ -115,7 +102,7 @@ loop-again c =
       omega arith,
       search needs,
       next (formulaOf (args .f)) (args .p) (args .c) (now (args .list)) (now (args .out)) (args .e) (given .pre .0) _ _ _ _ (given .pre .1)
-          (test .loop-test .taken) (work .sum .ensures .0 ∙ whole-sum _ _ _ _ _) (loop .loop .inv .2) (put .put-wide .ensures),
+          (test .loop-test .taken) (work .sum .ensures .0 ∙ whole-sum _ _ _ _ _) (loop .loop .inv .2) (put .put-body .ensures),
     )
 
 same-length : tie.Need-same-length Inv-loop μ-loop
@@ -143,11 +130,7 @@ put-bodies-spec =
     shared-slice-read-sum-2
     cast-sum-2
     sum-requires
-    mul-put-wide
-    add-put-wide
-    mul-put-wide-2
-    add-put-wide-2
-    put-wide-requires
+    put-body-requires
     add-i
     loop-less
     loop-again

@@ -2,7 +2,7 @@
 -- Assumes nothing.
 use borrow.Author.Needs.{needs}
 use borrow.Author.Tests.{not-true, not-false}
-use Rattle.sheet.proofs.Testing.{other-length, head-not-zero, entry-not-zero, by-contents}
+use Rattle.sheet.proofs.Form.{other-length, head-not-zero, entry-not-zero, by-contents}
 use Rattle.sheet.proofs.contents.well_formed.Statement.{statement}
 use Rattle.sheet.proofs.contents.well_formed.Tie as tie
 

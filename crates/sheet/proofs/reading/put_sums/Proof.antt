@@ -9,7 +9,7 @@ use borrow.Author.Needs.{needs}
 use denote.Ref.{now}
 use lib.ListN.{length, take, drop}
 use Rattle.words.specs.Bytes.{bytesOf, field}
-use Rattle.ledger.specs.Plain.{Entry}
+use Rattle.run.specs.Run.{Entry}
 use Rattle.sheet.specs.Sheet.{sheetCount, sumIn, entriesFrom, bodiesOf}
 use Rattle.sheet.specs.Calls.{over}
 use Rattle.sheet.proofs.Many.{count-entries}

@@ -2,7 +2,7 @@
 -- Assumes nothing.
 use native.Mathlib.Omega.{arith}
 use borrow.Author.Needs.{needs}
-use Rattle.sheet.proofs.Testing.{none-applied, read-done, not-read}
+use Rattle.sheet.proofs.ReadTests.{readable, read-done, not-read}
 use Rattle.sheet.proofs.reading.read.Statement.{statement}
 use Rattle.sheet.proofs.reading.read.Tie as tie
 
@@ -18,8 +18,8 @@ cast-put-list c = search needs
 put-list-requires : tie.Need-put-list-requires
 put-list-requires c κs =
     let told = c .before .before in
-    let h = none-applied _ _ _ _ _ (told .before .before .test-read .ensures) _ (told .e .given .1) in
-    (omega (arith, h .size), h .list-room)
+    let h = readable _ _ _ _ _ (told .before .before .test-read .ensures) _ (told .e .given .1) in
+    (omega (arith, h .1), h .2)
 
 cast-put-sums : tie.Need-cast-put-sums
 cast-put-sums c = search needs
@@ -27,8 +27,8 @@ cast-put-sums c = search needs
 put-sums-requires : tie.Need-put-sums-requires
 put-sums-requires c κs =
     let told = c .before .before .before .before .before .before in
-    let h = none-applied _ _ _ _ _ (told .before .before .test-read .ensures) _ (told .e .given .1) in
-    (h .count, h .size, h .sums-room)
+    let h = readable _ _ _ _ _ (told .before .before .test-read .ensures) _ (told .e .given .1) in
+    (h .0, h .1, h .3)
 
 enum-known-r : tie.Need-enum-known-r
 enum-known-r c = search needs

@@ -1,0 +1,4 @@
+pub mod Testing
+pub mod Simulation
+pub mod Admitting
+pub mod Singles

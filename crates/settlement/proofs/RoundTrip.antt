@@ -1,0 +1,233 @@
+-- What the writer writes, the reader takes and gives back; and an accepted sheet with right sums is what the writer writes.
+-- Assumes nothing.
+use mathlib.Core.Path.{_≡_, refl, sym, ap, ap₂, _∙_, subst}
+use mathlib.Core.Bool.{Bool, true, false, _&&_, _||_}
+use mathlib.Core.List.{List, [], _∷_, _++_, List·Memᴰ, List·Memᴰ·head, List·Memᴰ·tail, List·Memᴰ·not-nil}
+use Prim.Native.Nat.{ℕ, zero, suc, _+_, _*_, _/_, _%_, _^_, _<_, _≤_}
+use native.Mathlib.Nat.{le-refl, not-suc-le-zero, mod-eq-of-lt}
+use native.Mathlib.Omega.{arith}
+use borrow.Author.Tests.{ltb-false, eqb-true, eqb-false, le-ltb, eq-eqb, ne-eqb, not-false}
+use lib.Dec.{ltb, eqb}
+use lib.IntN.{pos}
+use lib.ListN.{length, getD, take, drop, replicate, length-append, length-replicate}
+use lib.Pow.{pow-pos}
+use lib.Seq.{getD-drop, take-at, drop-at}
+use Rattle.algebra.specs.Test.{allBelow}
+use Rattle.algebra.proofs.Booleans.{and-left, and-right, neither}
+use Rattle.algebra.proofs.Below.{all-true, all-at}
+use Rattle.algebra.proofs.Integers.{residue-lt}
+use Rattle.words.specs.Bytes.{bytesOf, valueOf, field, AllBytes}
+use Rattle.series.specs.Series.{Formula, rowCount, modulus, rangeSum}
+use Rattle.run.specs.Refusal.{refusal, answer}
+use Rattle.run.specs.Run.{Limits, limitsOf, inRange, isTicket, ticketSum}
+use Rattle.run.proofs.Answering as answering
+use Rattle.run.proofs.Answering.{passes}
+use Rattle.run.proofs.Range.{range-of, ticket-row, ticket-block}
+use Rattle.run.specs.Call.{answered, bytesLeft, refusedBy, allLeft}
+use Rattle.ledger.specs.Ledger.{View, viewOf}
+use Rattle.ledger.specs.Plain.{Entry}
+use Rattle.sheet.specs.Sheet.{sheetLength, sheetMost, listMost, sheetPos, sheetBlocks, sheetCount, entries, every, allTickets, key, ascending, wellFormed, contentsOf, bodiesOf, sheetOf, listOf, listed}
+use Rattle.sheet.specs.Calls.{over, sheetRefusal, sheetPostCall, readCall, writeCall}
+use Rattle.sheet.specs.RoundTrip.{Fits, ReadsBack, WrittenReadsBack, Accepted, by-reading, by-posting, RightSums, AcceptedIsWritten}
+use Rattle.sheet.proofs.Simulation.{formed, sheet-taken}
+use Rattle.sheet.proofs.Many.{count-entries, count-listed}
+use Rattle.sheet.proofs.Sheets.{Fitting, pos-read, blocks-read, count-read, entries-read, sheet-again, length-contents}
+
+-- ---- written, then read
+
+module _ (F : Formula) (fits : Fits F) (p C : ℕ) (list out list′ sums′ : List ℕ) (bytes : AllBytes list) (t : Taken F p C list out)
+    (room-list : length list ≤ length list′) (room-sums : 8 * length list ≤ length sums′) where
+  ts : List Entry
+  ts = listed F p C list
+
+  s : List ℕ
+  s = sheetOf p C ts
+
+  count : length ts ≡ length list / 2
+  unfolding ts
+  count = count-listed F p C list
+
+  p-fits : p < 2 ^ 64
+  p-fits = let r = range-of (limitsOf F) p C (t .range) in let n = fits .near in let h = r .p-high in omega (arith, h, n)
+
+  C-small : C ≤ 256
+  C-small = range-of (limitsOf F) p C (t .range) .C-high
+
+  few : length ts < 65536
+  few = let h = t .short in let n = fits .few in let c = count in omega (arith, h, n, c)
+
+  entries-fit : Fitting ts
+  unfolding ts
+  entries-fit = fitting F p C list C-small (t .tickets)
+
+  C-fits : C < 65536
+  C-fits = let h = C-small in omega arith
+
+  count-is : sheetCount s ≡ length list / 2
+  unfolding s
+  count-is = count-read p C ts p-fits C-fits few entries-fit ∙ count
+
+  entries-are : entries s ≡ ts
+  unfolding s
+  entries-are = entries-read p C ts p-fits C-fits few entries-fit
+
+  not-refused : refusedBy (readCall (limitsOf F) s list′ sums′) ≡ 0
+  unfolding readCall refusedBy refusal s ts
+  not-refused =
+      let len : length s ≡ sheetLength (length list / 2) = length-sheet p C ts ∙ ap sheetLength count in
+      let h = t .short in
+      let ev = t .even in
+      rw (
+        len,
+        count-is,
+        le-ltb (sheetLength (length list / 2)) 16 (omega arith),
+        le-ltb (sheetMost (limitsOf F)) (sheetLength (length list / 2)) (omega (arith, h)),
+        le-ltb (length list′) (2 * (length list / 2)) (omega (arith, ev)),
+        le-ltb (length sums′) (16 * (length list / 2)) (omega (arith, ev)),
+        pos-read p C ts p-fits C-fits few entries-fit,
+        blocks-read p C ts p-fits C-fits few entries-fit,
+        t .range,
+        written-formed p C ts p-fits C-fits few entries-fit (t .ascends),
+        entries-are,
+        t .tickets,
+      ) refl
+
+  reads-back : ReadsBack F p C list (sheetOf p C (listed F p C list)) list′ sums′
+  unfolding readCall answered allLeft answer ts s
+  reads-back = record {
+    count = rw (not-refused, count-is) refl;
+    list-is = rw (not-refused, entries-are, list-again F p C list bytes (t .even)) refl;
+    sums-are = rw (not-refused, entries-are) refl;
+    pos-is = pos-read p C ts p-fits C-fits few entries-fit;
+    blocks-are = blocks-read p C ts p-fits C-fits few entries-fit;
+  }
+
+  sums-right : RightSums F (sheetOf p C (listed F p C list))
+  unfolding RightSums ts s
+  sums-right t m =
+      listed-right F p C list t (subst (List·Memᴰ t) entries-are m)
+      ∙ sym (ap₂ (λ (x y : ℕ). ticketSum F x y (t .row) (t .block)) (reads-back .pos-is) (reads-back .blocks-are))
+
+pub written-reads-back : (F : Formula) → Fits F → WrittenReadsBack F
+unfolding writeCall answered allLeft
+written-reads-back F fits p C list out bytes n e =
+    let z = answering.not-refused (refusedBy (writeCall F p C list out)) (sheetLength (length list / 2)) n e in
+    let s = sheetOf p C (listed F p C list) in
+    let l : length s ≡ n = length-sheet p C (listed F p C list) ∙ ap sheetLength (count-listed F p C list) ∙ z .1 in
+    let t = taken-of F p C list out (z .0) in
+    let bytes-are : bytesLeft (writeCall F p C list out) 0 ≡ over s out = rw (z .0) refl in
+    let sheet-is : s ≡ take n (bytesLeft (writeCall F p C list out) 0) = sym (ap (take n) bytes-are ∙ take-at s (drop (length s) out) n l) in
+    let zeros : List ℕ = replicate (8 * length list) 0 in
+    let room : 8 * length list ≤ length zeros = omega (arith, length-replicate {A = ℕ} (8 * length list) 0) in
+    record {
+      length-is = sym (z .1);
+      rest = ap (drop n) bytes-are ∙ drop-at s (drop (length s) out) n l ∙ ap (λ (k : ℕ). drop k out) l;
+      accepted = subst (Accepted (limitsOf F)) sheet-is
+          (by-reading list zeros _ (reads-back F fits p C list out list zeros bytes t (le-refl (length list)) room .count));
+      right = subst (RightSums F) sheet-is (sums-right F fits p C list out list zeros bytes t (le-refl (length list)) room);
+      reads-back = λ list′ sums′ a b.
+          subst (λ (x : List ℕ). ReadsBack F p C list x list′ sums′) sheet-is (reads-back F fits p C list out list′ sums′ bytes t a b);
+    }
+
+-- ---- accepted, then written
+
+-- what the reader and a post have both tested: refusals 1 to 4 do not apply to the bytes of the sheet
+record Passed (lim : Limits) (s : List ℕ) : Type 0 where
+  size-low : 16 ≤ length s
+  size-high : length s ≤ sheetMost lim
+  range : inRange lim (sheetPos s) (sheetBlocks s) ≡ true
+  formed : wellFormed s ≡ true
+  tickets : allTickets lim (sheetBlocks s) (entries s) ≡ true
+
+module _ (F : Formula) (fits : Fits F) (s out : List ℕ) (bytes : AllBytes s) (acc : Passed (limitsOf F) s) (right : RightSums F s)
+    (room : length s ≤ length out) where
+  tested : Bool
+  tested =
+      eqb (length s) (sheetLength (sheetCount s)) && eqb (field s 12 4) 0
+      && allBelow (sheetCount s) (λ i. eqb (getD s (17 + 4 * i) 0) 0)
+
+  tests-hold : tested ≡ true
+  unfolding tested wellFormed
+  tests-hold = and-left tested (ascending (entries s)) (acc .formed)
+
+  length-is : length s ≡ sheetLength (sheetCount s)
+  unfolding tested
+  length-is =
+      let a = and-left (eqb (length s) (sheetLength (sheetCount s)) && eqb (field s 12 4) 0) _ tests-hold in
+      eqb-true _ _ (and-left (eqb (length s) (sheetLength (sheetCount s))) _ a)
+
+  again : sheetOf (sheetPos s) (sheetBlocks s) (entries s) ≡ s
+  unfolding tested
+  again =
+      let a = and-left (eqb (length s) (sheetLength (sheetCount s)) && eqb (field s 12 4) 0) _ tests-hold in
+      let z = and-right (eqb (length s) (sheetLength (sheetCount s)) && eqb (field s 12 4) 0) _ tests-hold in
+      sheet-again s bytes length-is (eqb-true _ _ (and-right (eqb (length s) (sheetLength (sheetCount s))) _ a))
+      (λ j h. eqb-true _ _ (all-at (sheetCount s) _ z j h))
+
+  listed-are : listed F (sheetPos s) (sheetBlocks s) (listOf (entries s)) ≡ entries s
+  unfolding RightSums
+  listed-are =
+      listed-again F (sheetPos s) (sheetBlocks s) (entries s) (fits .few)
+      (range-of (limitsOf F) (sheetPos s) (sheetBlocks s) (acc .range) .C-high) (acc .tickets) right
+
+  list-length : length (listOf (entries s)) ≡ 2 * sheetCount s
+  unfolding entries
+  list-length = length-list (entries s) ∙ ap (λ (n : ℕ). 2 * n) (count-entries s (sheetCount s) 0)
+
+  half : length (listOf (entries s)) / 2 ≡ sheetCount s
+  half = let h = list-length in omega (arith, h)
+
+  taken : Taken F (sheetPos s) (sheetBlocks s) (listOf (entries s)) out
+  taken =
+      let h = list-length in
+      let l = length-is in
+      let m = acc .size-high in
+      record {
+        even = omega (arith, h);
+        short = omega (arith, h, l, m);
+        room = rw half (omega (arith, l, room));
+        range = acc .range;
+        ascends = ap ascending listed-are ∙ formed s (acc .formed);
+        tickets = ap (allTickets (limitsOf F) (sheetBlocks s)) listed-are ∙ acc .tickets;
+      }
+
+  is-written : (answered (writeCall F (sheetPos s) (sheetBlocks s) (listOf (entries s)) out) ≡ pos (length s))
+      × (bytesLeft (writeCall F (sheetPos s) (sheetBlocks s) (listOf (entries s)) out) 0 ≡ over s out)
+  unfolding writeCall answered allLeft answer
+  is-written = (
+    rw (of-taken F (sheetPos s) (sheetBlocks s) (listOf (entries s)) out taken, half) (ap pos (sym length-is)),
+    rw (of-taken F (sheetPos s) (sheetBlocks s) (listOf (entries s)) out taken, listed-are, again) refl,
+  )
+
+-- ---- what the reader takes, and what a post takes
+
+read-passed : (lim : Limits) (s list sums : List ℕ) → refusedBy (readCall lim s list sums) ≡ 0 → Passed lim s
+unfolding readCall refusedBy
+read-passed lim s list sums e =
+    let e₁ = passes 0 _ _ e in
+    let e₂ = passes 1 _ _ (e₁ .1) in
+    let e₃ = passes 2 _ _ (e₂ .1) in
+    let e₄ = passes 3 _ _ (e₃ .1) in
+    let c = neither (ltb (length s) 16 || ltb (sheetMost lim) (length s) || ltb (length list) (2 * sheetCount s)) _ (e₁ .0) in
+    let b = neither (ltb (length s) 16 || ltb (sheetMost lim) (length s)) _ (c .0) in
+    let a = neither (ltb (length s) 16) (ltb (sheetMost lim) (length s)) (b .0) in
+    record {
+      size-low = ltb-false (length s) 16 (a .0);
+      size-high = ltb-false (sheetMost lim) (length s) (a .1);
+      range = not-false _ (e₂ .0);
+      formed = not-false _ (e₃ .0);
+      tickets = not-false _ (e₄ .0);
+    }
+
+post-passed : (lim : Limits) (v : View) (s : List ℕ) → sheetRefusal lim v s ≡ 0 → Passed lim s
+post-passed lim v s e =
+    let t = sheet-taken lim v s e in
+    record { size-low = t .size-low; size-high = t .size-high; range = t .range; formed = t .well-formed; tickets = t .tickets }
+
+passed : (lim : Limits) (s : List ℕ) → Accepted lim s → Passed lim s
+unfolding readCall answered sheetPostCall refusedBy sheetRefusal
+passed lim s (by-reading list sums e a) = read-passed lim s list sums (answering.not-refused _ _ e a .0)
+passed lim s (by-posting ledger a) = post-passed lim (viewOf lim ledger) s (answering.not-refused _ 0 0 a .0)
+
+pub accepted-is-written : (F : Formula) → Fits F → AcceptedIsWritten F
+accepted-is-written F fits s out bytes acc right room = is-written F fits s out bytes (passed (limitsOf F) s acc) right room
