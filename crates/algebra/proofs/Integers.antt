@@ -1,11 +1,11 @@
 -- Whole numbers as differences of naturals, so that `omega` can prove what is stated of them.
 -- Assumes nothing.
-use mathlib.Core.Path.{_≡_, sym, ap, _∙_}
+use mathlib.Core.Path.{_≡_, refl, sym, ap, _∙_}
 use mathlib.Core.Bool.{Bool, true, false, cond, not}
 use Prim.Native.Nat.{ℕ, zero, suc, _+_, _*_, _-_, _/_, _%_, _≤_, _<_}
 use native.Mathlib.Nat.{mod-add-div, mod-lt, div-mul-le-self, lt-div-mul-add, add-mul-mod-self-left, mod-eq-of-lt}
 use native.Mathlib.Omega.{arith}
-use lib.Dec.{T, leb, ltb, le→leb, ltb→lt, nltb→le}
+use lib.Dec.{T, ltb, le→leb, ltb→lt, nltb→le}
 use lib.IntN.{ℤ, pos, negsuc, subℕ, negℤ, _+ℤ_, _*ℤ_}
 use lib.Signed.{_≤ℤ_}
 use Rattle.algebra.specs.Whole.{quotient, residue}
@@ -25,6 +25,9 @@ cases false x y P f g = g tt
 -- `subℕ a b` by its two cases
 pub sub-cases : (a b : ℕ) (P : ℤ → Type 0) → (a < b → P (negsuc (b - suc a))) → (b ≤ a → P (pos (a - b))) → P (subℕ a b)
 sub-cases a b P f g = cases (ltb a b) (negsuc (b - suc a)) (pos (a - b)) P (λ t. f (ltb→lt a b t)) (λ t. g (nltb→le a b t))
+
+pub sub-pos : (a b : ℕ) → b ≤ a → subℕ a b ≡ pos (a - b)
+sub-pos a b h = sub-cases a b (λ z. z ≡ pos (a - b)) (λ l. absurd (omega arith)) (λ l. refl)
 
 pub diff-sub : (a b : ℕ) → Diff (subℕ a b) a b
 diff-sub a b = sub-cases a b (λ z. Diff z a b) (λ h. omega arith) (λ h. omega arith)

@@ -3,24 +3,29 @@
 use mathlib.Core.Path.{_≡_, refl, sym, ap, _∙_, subst}
 use mathlib.Core.Bool.{Bool, true, false, not, cond}
 use mathlib.Core.List.{List, [], _∷_, _++_}
-use Prim.Native.Nat.{ℕ, zero, suc, _+_, _/_, _%_, _^_, _<_, _≤_}
+use Prim.Native.Nat.{ℕ, suc, _+_, _/_, _%_, _^_, _<_, _≤_}
+use native.Mathlib.Nat.{le-of-suc-le-suc, lt-of-not-le}
 use native.Mathlib.Omega.{arith}
-use borrow.Author.Tests.{eqb-true, eqb-false, not-false, eq-eqb, ne-eqb, ltb-true, ltb-false}
-use lib.Dec.{eqb, ltb}
+use borrow.Author.Tests.{eqb-true, eqb-false, not-false, eq-eqb, ne-eqb}
+use lib.Dec.{eqb}
 use lib.IntN.{ℤ, pos, negsuc, subℕ}
 use lib.ListN.{length, drop}
 use Rattle.algebra.specs.Test.{allBelow}
-use Rattle.algebra.specs.Whole.{quotient, sameℤ}
+use Rattle.algebra.specs.Whole.{quotient}
 use Rattle.algebra.proofs.Booleans.{and-left, neither}
 use Rattle.algebra.proofs.Below.{all-ext}
+use Rattle.algebra.proofs.Integers.{sub-pos}
 use Rattle.words.specs.Bytes.{field}
+use Rattle.words.proofs.Order.{sub-exact}
 use Rattle.series.specs.Series.{Formula, rowCount, termCount, plus, minus}
 use Rattle.series.specs.Fitting.{Position}
 use Rattle.series.specs.Names.{formulaOf}
 use Rattle.series.specs.declared.Series.{Series}
 use Rattle.series.specs.declared.Series.the-variants.{Bellard, Check}
-use Rattle.interval.specs.Interval.{Rule, isCharged, low, high, charges, unitAt}
-use Rattle.interval.specs.Digits.{settledUpTo, settled, lowDigits}
+use Rattle.digits.specs.Digits.{unitAt, settled, lowDigits}
+use Rattle.digits.proofs.Settled.{settled-within}
+use Rattle.digits.proofs.TopDigits.{negative-none}
+use Rattle.interval.specs.Interval.{Rule, isCharged, low, high, charges}
 use Rattle.run.specs.Refusal.{_⇐_, refusal}
 use Rattle.run.specs.Run.{Limits, limitsOf, inRange}
 use Rattle.run.proofs.Range.{Range, range-of, is-ticket}
@@ -33,7 +38,6 @@ use Rattle.run.specs.Call.{answered, refusedBy, Does}
 use Rattle.run.proofs.Calls.{works, turned-down}
 use Rattle.ledger.specs.Ledger.{View, viewOf, ledgerSize, posIn, blocksIn, totalIn, bitIn, markIn, inOrder}
 use Rattle.closing.specs.Closing.{Ordered, lowOf, highOf, settledAt, digitsAt, closeBy, closeCall}
-use Rattle.closing.proofs.TopDigits.{negative-none, sub-pos, sub-exact}
 
 -- ---- what an ordered ledger says
 
@@ -118,27 +122,14 @@ module _ (F : Formula) (s out : List ℕ) where
 
 -- ---- the lower end, where a digit is settled
 
-settled-at-most : (lo hi : ℤ) (n : ℕ) → settledUpTo lo hi n ≤ n
-unfolding settledUpTo
-settled-at-most lo hi zero = omega arith
-settled-at-most lo hi (suc d) = go (sameℤ (quotient lo (unitAt (suc d))) (quotient hi (unitAt (suc d)))) (settled-at-most lo hi d)
-  where
-    go : (b : Bool) → settledUpTo lo hi d ≤ d → cond b (suc d) (settledUpTo lo hi d) ≤ suc d
-    go true h = omega arith
-    go false h = omega arith
-
 pub settled-few : (F : Formula) (p total : ℕ) → settledAt isCharged F p total ≤ 32
-unfolding settledAt settled
-settled-few F p total = settled-at-most (lowOf isCharged F p total) (highOf isCharged F p total) 32
+unfolding settledAt
+settled-few F p total = settled-within (lowOf isCharged F p total) (highOf isCharged F p total)
 
 -- it is not below 0
 pub low-in : (R : Rule) (F : Formula) (p total : ℕ) → (settledAt R F p total ≡ 0 → ⊥) → charges R F minus p (termCount F p) + 1 ≤ total
 unfolding settledAt low high
-low-in R F p total n = go (ltb total (charges R F minus p (termCount F p) + 1)) refl
-  where
-    go : (b : Bool) → ltb total (charges R F minus p (termCount F p) + 1) ≡ b → charges R F minus p (termCount F p) + 1 ≤ total
-    go true e = absurd (n (sym (negative-none total (charges R F minus p (termCount F p) + 1) _ (ltb-true _ _ e))))
-    go false e = ltb-false _ _ e
+low-in R F p total n = le-of-suc-le-suc (lt-of-not-le (λ h. n (sym (negative-none total (charges R F minus p (termCount F p) + 1) _ h))))
 
 pub low-is : (F : Formula) (M p total r : ℕ) → (settledAt isCharged F p total ≡ 0 → ⊥) → total < M → r < M
     → (r + (charges isCharged F minus p (termCount F p) + 1)) % M ≡ total → lowOf isCharged F p total ≡ pos r

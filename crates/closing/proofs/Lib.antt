@@ -1,3 +1,2 @@
-pub mod TopDigits
 pub mod Closing
 pub mod Encoded

@@ -10,8 +10,8 @@ use lib.ListN.{length, drop}
 use Rattle.algebra.specs.Whole.{quotient}
 use Rattle.algebra.specs.Test.{allBelow}
 use Rattle.series.specs.Series.{Formula, rowCount, termCount}
-use Rattle.interval.specs.Interval.{Rule, isCharged, low, high, unitAt}
-use Rattle.interval.specs.Digits.{settled, lowDigits}
+use Rattle.digits.specs.Digits.{unitAt, settled, lowDigits}
+use Rattle.interval.specs.Interval.{Rule, isCharged, low, high}
 use Rattle.run.specs.Refusal.{_⇐_}
 use Rattle.run.specs.Call.{Call, slice}
 use Rattle.run.specs.Run.{Limits, limitsOf}

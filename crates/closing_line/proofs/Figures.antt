@@ -12,8 +12,8 @@ use Rattle.algebra.specs.Whole.{residue, sameℤ}
 use Rattle.series.specs.Series.{isAdded, termCount, onSide, rowSum, overRows, sideSum, modulus}
 use Rattle.series.specs.Bellard.{bellard}
 use Rattle.series.specs.declared.Series.the-variants.{Bellard}
+use Rattle.digits.specs.Digits.{settledUpTo, settled, hexDigit, hexText, lowDigits}
 use Rattle.interval.specs.Interval.{isCharged, charges, low, high}
-use Rattle.interval.specs.Digits.{settledUpTo, settled, hexDigit, hexText, lowDigits}
 use Rattle.run.specs.Refusal.{refusal, answer}
 use Rattle.run.specs.Run.{limitsOf, isTicket}
 use Rattle.run.specs.Call.{answered, bytesLeft, refusedBy, allLeft}

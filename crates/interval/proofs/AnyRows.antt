@@ -1,7 +1,7 @@
 -- The general fact, for any list of rows.
 -- Assumes nothing.
+use Rattle.digits.proofs.Settled.{one-outcome}
 use Rattle.interval.specs.AnyRows.{AnyRows}
-use Rattle.interval.proofs.Digits.{one-outcome}
 use Rattle.interval.proofs.Settling.{lies-from, shared-digits}
 
 pub any-rows : AnyRows

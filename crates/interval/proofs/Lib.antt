@@ -5,6 +5,5 @@ pub mod Rest
 pub mod Premises
 pub mod Counts
 pub mod Denominator
-pub mod Digits
 pub mod Settling
 pub mod AnyRows

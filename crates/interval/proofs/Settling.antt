@@ -3,17 +3,17 @@
 -- Assumes nothing.
 use mathlib.Core.Path.{_≡_, refl, sym, ap, _∙_, subst}
 use Prim.Native.Nat.{ℕ, suc, _+_, _*_, _-_, _^_, _≤_, _<_}
-use native.Mathlib.Nat.{zero-add, lt-of-mul-lt-mul-right, mul-le-mul-left, mul-lt-mul-of-pos-left, mul-pos}
+use native.Mathlib.Nat.{zero-add, lt-of-mul-lt-mul-right, mul-le-mul-left, mul-lt-mul-of-pos-left, mul-pos, one-le-pow}
 use native.Mathlib.Omega.{arith}
 use lib.Pow.{pow-pos}
 use lib.IntN.{ℤ, pos, subℕ, negℤ, _*ℤ_}
 use Rattle.algebra.specs.Whole.{residue, quotient}
 use Rattle.series.specs.Series.{Formula, Side, plus, minus, modulus, size, sideSum, sizesSum}
+use Rattle.digits.specs.Digits.{unitAt, Settles, hexText, lowDigits}
 use Rattle.interval.specs.Exact.{exactTimes, exactSum, MakesWhole}
-use Rattle.interval.specs.Digits.{hexText, lowDigits}
-use Rattle.interval.specs.Interval.{Rule, Settles, unitAt, charges, unchargedTimes, Positive, RestBelowUnit, low, high, LiesFrom}
+use Rattle.interval.specs.Interval.{Rule, charges, unchargedTimes, Positive, RestBelowUnit, low, high, LiesFrom}
 use Rattle.series.proofs.Sides.{side-split}
-use Rattle.interval.proofs.Digits.{pow-step, split-modulus}
+use Rattle.digits.proofs.Settled.{split-modulus}
 use Rattle.interval.proofs.Bound.{carry, head-low, head-high, low-side, high-side}
 use Rattle.algebra.proofs.Integers.{Diff, diff-sub, diff-add, diff-neg, diff-mul-pos, diff-pos-mul, diff-le, diff-self, above, beneath, floor-low, floor-high, residue-is, residue-eq, turns, back}
 
@@ -138,5 +138,5 @@ shared-digits R F p K positive rest d s D L dp h whole =
     let b = charges R F minus p K in
     ap (hexText d)
     (settles D (16 ^ d) (unitAt d) total a b X⁺ X⁻ (quotient (subℕ total (b + 1)) (unitAt d)) dp (pow-pos (128 - 4 * d))
-    (subst (λ (x : ℕ). 0 < x) (pow-step 4 d) (pow-pos (4 * d))) modulus (split-modulus d (s .1))
+    (one-le-pow d 16 (omega arith)) modulus (split-modulus d (s .1))
     (near R F p K positive rest D L dp h whole) refl (sym (s .2)))

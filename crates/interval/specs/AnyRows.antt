@@ -8,9 +8,9 @@ use Prim.Native.Nat.{ℕ, _*_, _≤_, _<_}
 use lib.IntN.{ℤ}
 use Rattle.algebra.specs.Whole.{quotient}
 use Rattle.series.specs.Series.{Formula, sizesSum}
+use Rattle.digits.specs.Digits.{unitAt, Settles, OneOutcome, lowDigits}
 use Rattle.interval.specs.Exact.{MakesWhole, exactSum}
-use Rattle.interval.specs.Interval.{Rule, low, high, LiesFrom, Positive, RestBelowUnit, unitAt, Settles, OneOutcome}
-use Rattle.interval.specs.Digits.{lowDigits}
+use Rattle.interval.specs.Interval.{Rule, low, high, LiesFrom, Positive, RestBelowUnit}
 
 -- the ends of the interval around the sum of the sizes of the first K terms
 abbrev pub lowEnd : Rule → Formula → ℕ → ℕ → ℤ

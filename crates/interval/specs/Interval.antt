@@ -1,13 +1,10 @@
--- The interval around a total in which the exact sum lies, and the digits that it settles. Document 01, "Closing"; document 02, slip 5.
-use mathlib.Core.Path.{_≡_}
+-- The interval around a total in which the exact sum lies. Document 01, "Closing"; document 02, slip 5.
 use mathlib.Core.Bool.{Bool, true, cond}
-use mathlib.Core.Logic.{_⊎_}
 use mathlib.Core.List.{List·Memᴰ}
-use Prim.Native.Nat.{ℕ, _+_, _*_, _-_, _^_, _≤_, _<_}
+use Prim.Native.Nat.{ℕ, _+_, _*_, _<_}
 use lib.Dec.{leb}
 use lib.IntN.{ℤ, pos, subℕ, _-ℤ_, _*ℤ_}
 use lib.Signed.{_≤ℤ_}
-use Rattle.algebra.specs.Whole.{quotient}
 use Rattle.series.specs.Series.{Row, Formula, Side, plus, minus, divisor, rise, fall, sideSum, modulus}
 use Rattle.interval.specs.Exact.{MakesWhole, exactTimes}
 
@@ -58,28 +55,3 @@ unfoldable pub RestBelowUnit : Rule → Formula → ℕ → ℕ → Type 0
 RestBelowUnit R F p K =
     (D count : ℕ) → 0 < D → MakesWhole F p (K + count) D → (side : Side)
     → sideSum F side (unchargedTimes R F p D) 0 K + sideSum F side (exactTimes F p D) K count < D
-
--- ---- settled digits
-
--- 2 ^ (128 - 4 d)
-abbrev pub unitAt : ℕ → ℕ
-unitAt d = 2 ^ (128 - 4 * d)
-
--- lo and hi have the same quotient by 2 ^ (128 - 4 d), rounded down: the distance between them settles d digits
-unfoldable pub Settles : ℤ → ℤ → ℕ → Type 0
-Settles lo hi d = (1 ≤ d) × (d ≤ 32) × (quotient lo (unitAt d) ≡ quotient hi (unitAt d))
-
--- d is the greatest number of digits that the distance settles
-pub record Greatest (lo hi : ℤ) (d : ℕ) : Type 0 where
-  pub settles : Settles lo hi d
-  pub most : (e : ℕ) → Settles lo hi e → e ≤ d
-
--- it settles none
-abbrev pub NoneSettled : ℤ → ℤ → Type 0
-NoneSettled lo hi = (d : ℕ) → Settles lo hi d → ⊥
-
--- Exactly one of the two comes about, and for one d only.
-pub record OneOutcome (lo hi : ℤ) : Type 0 where
-  pub either : ((d : ℕ) × Greatest lo hi d) ⊎ NoneSettled lo hi
-  pub not-both : (d : ℕ) → Greatest lo hi d → NoneSettled lo hi → ⊥
-  pub one-d : (d e : ℕ) → Greatest lo hi d → Greatest lo hi e → d ≡ e

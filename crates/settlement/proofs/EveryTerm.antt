@@ -14,19 +14,19 @@ use lib.Pow.{shr-mono}
 use lib.Seq.{take-append-le}
 use lib.Signed.{_≤ℤ_}
 use Rattle.algebra.specs.Whole.{quotient}
-use Rattle.algebra.proofs.Integers.{Diff, diff-sub, diff-le}
+use Rattle.algebra.proofs.Integers.{sub-pos, Diff, diff-sub, diff-le}
 use Rattle.series.specs.Series.{Formula, Side, plus, minus, termCount}
 use Rattle.series.proofs.Sides.{side-le}
-use Rattle.interval.specs.Interval.{Rule, isCharged, everyTerm, charges, low, high, unitAt, Settles}
-use Rattle.interval.specs.Digits.{settled, lowDigits}
-use Rattle.interval.proofs.Digits.{at-most, settled-greatest}
+use Rattle.digits.specs.Digits.{unitAt, Settles, settled, lowDigits}
+use Rattle.digits.proofs.Settled.{at-most, settled-greatest}
+use Rattle.digits.proofs.TopDigits.{fewer-digits, length-low}
+use Rattle.interval.specs.Interval.{Rule, isCharged, everyTerm, charges, low, high}
 use Rattle.run.specs.Run.{limitsOf}
 use Rattle.run.proofs.Answering.{not-refused, finished, changed}
 use Rattle.run.specs.Call.{answered, allLeft, refusedBy}
 use Rattle.ledger.specs.Ledger.{View, viewOf, totalIn}
 use Rattle.closing.specs.Closing.{lowOf, highOf, settledAt, digitsAt, closeBy}
 use Rattle.closing.proofs.Closing.{low-in, settled-few, nine-alone}
-use Rattle.closing.proofs.TopDigits.{sub-pos, fewer-digits, length-low}
 use Rattle.settlement.specs.EveryTerm.{answerBefore, Keeps, NoWider}
 
 -- no rule charges more than every term

@@ -18,8 +18,8 @@ use Rattle.series.specs.Check.{check}
 use Rattle.series.specs.Names.{formulaOf}
 use Rattle.series.specs.declared.Series.{Series}
 use Rattle.series.specs.declared.Series.the-variants.{Bellard, Check}
+use Rattle.digits.specs.Digits.{settledUpTo, settled, hexDigit, hexText, lowDigits}
 use Rattle.interval.specs.Interval.{Rule, isCharged, everyTerm, charges, low, high}
-use Rattle.interval.specs.Digits.{settledUpTo, settled, hexDigit, hexText, lowDigits}
 use Rattle.run.specs.Refusal.{refusal, answer}
 use Rattle.run.specs.Run.{limitsOf, isTicket}
 use Rattle.run.specs.Call.{answered, bytesLeft, refusedBy, allLeft}

@@ -15,10 +15,10 @@ use Rattle.series.specs.Fitting.{Position}
 use Rattle.series.specs.Names.{formulaOf}
 use Rattle.series.specs.declared.Series.{Series}
 use Rattle.series.specs.declared.Series.the-variants.{Bellard, Check}
-use Rattle.interval.specs.Interval.{isCharged, charges, low, high, Greatest}
-use Rattle.interval.specs.Digits.{settledUpTo, settled, hexDigit, hexText, lowDigits}
+use Rattle.digits.specs.Digits.{Greatest, settledUpTo, settled, hexDigit, hexText, lowDigits}
+use Rattle.digits.proofs.Settled.{settled-greatest}
+use Rattle.interval.specs.Interval.{isCharged, charges, low, high}
 use Rattle.interval.proofs.Denominator.{whole-exists}
-use Rattle.interval.proofs.Digits.{settled-greatest}
 use Rattle.interval.proofs.AnyRows.{any-rows}
 use Rattle.run.specs.Run.{limitsOf}
 use Rattle.run.proofs.Positions.{position}

@@ -13,11 +13,11 @@ use Rattle.algebra.specs.Whole.{quotient}
 use Rattle.algebra.proofs.Below.{all-true}
 use Rattle.series.specs.Series.{Formula, rowCount, termCount, sizesSum}
 use Rattle.series.specs.Fitting.{Position}
+use Rattle.digits.specs.Digits.{unitAt, Settles, settled, lowDigits}
+use Rattle.digits.proofs.Settled.{greatest, none-settled, settled-none, one-outcome}
 use Rattle.interval.specs.Exact.{MakesWhole, exactSum}
-use Rattle.interval.specs.Interval.{isCharged, LiesFrom, Positive, RestBelowUnit, Settles, unitAt}
-use Rattle.interval.specs.Digits.{settled, lowDigits}
+use Rattle.interval.specs.Interval.{isCharged, LiesFrom, Positive, RestBelowUnit}
 use Rattle.interval.proofs.AnyRows.{any-rows}
-use Rattle.interval.proofs.Digits.{greatest, none-settled, settled-none, one-outcome}
 use Rattle.run.specs.Refusal.{refusal, answer}
 use Rattle.run.specs.Run.{limitsOf, inRange}
 use Rattle.run.proofs.Positions.{position}

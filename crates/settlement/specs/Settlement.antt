@@ -9,9 +9,9 @@ use lib.ListN.{length, drop}
 use Rattle.algebra.specs.Sum.{sum}
 use Rattle.algebra.specs.Whole.{quotient}
 use Rattle.series.specs.Series.{Formula, rowCount, termCount, modulus}
+use Rattle.digits.specs.Digits.{unitAt, Greatest, NoneSettled, OneOutcome, lowDigits}
 use Rattle.interval.specs.Exact.{MakesWhole, exactSum}
-use Rattle.interval.specs.Interval.{isCharged, LiesFrom, unitAt, Greatest, NoneSettled, OneOutcome}
-use Rattle.interval.specs.Digits.{lowDigits}
+use Rattle.interval.specs.Interval.{isCharged, LiesFrom}
 use Rattle.run.specs.Run.{limitsOf, inRange, isTicket, ticketSum}
 use Rattle.run.specs.Call.{answered, bytesLeft}
 use Rattle.ledger.specs.Ledger.{fresh, ledgerSize, totalOf}

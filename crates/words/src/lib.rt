@@ -2,6 +2,7 @@
 ghost use mathlib.Core.Path.{_≡_};
 ghost use mathlib.Core.List.{_++_};
 ghost use Prim.Native.Nat.{_+_, _*_, _/_, _%_, _^_, _≤_};
+ghost use lib.Dec.{ltb};
 ghost use lib.ListN.{length, take, drop, replicate};
 ghost use Rattle.words.specs.Words.{joined};
 ghost use Rattle.words.specs.Bytes.{bytesOf, field};
@@ -84,6 +85,17 @@ pub fn sub(a: Wide, b: Wide) -> Wide
     Wide {
         hi: std::num::wrapping_sub_u64(hi, borrow),
         lo,
+    }
+}
+
+// Whether a is below b.
+pub fn is_less(a: Wide, b: Wide) -> bool
+    ensures { λ r. ⌜ r ≡ ltb (joined (a .hi) (a .lo)) (joined (b .hi) (b .lo)) ⌝ }
+{
+    if a.hi == b.hi {
+        a.lo < b.lo
+    } else {
+        a.hi < b.hi
     }
 }
 

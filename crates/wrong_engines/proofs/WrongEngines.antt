@@ -24,8 +24,8 @@ use Rattle.series.specs.Series.{modulus, size, isAdded, termCount, onSide, rowS
 use Rattle.series.specs.Squarings.{squarings, rangeSquarings}
 use Rattle.series.specs.Bellard.{bellard}
 use Rattle.series.specs.declared.Series.the-variants.{Bellard}
+use Rattle.digits.specs.Digits.{settledUpTo, settled, hexDigit, hexText, lowDigits}
 use Rattle.interval.specs.Interval.{Rule, isCharged, everyTerm, charges, low, high}
-use Rattle.interval.specs.Digits.{settledUpTo, settled, hexDigit, hexText, lowDigits}
 use Rattle.run.specs.Refusal.{_⇐_, refusal, answer}
 use Rattle.run.proofs.Answering as answering
 use Rattle.run.specs.Run.{inRange, isTicket, bound, ticketSum}

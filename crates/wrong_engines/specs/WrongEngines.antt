@@ -15,7 +15,8 @@ use Rattle.algebra.specs.Whole.{residue, sameℤ}
 use Rattle.words.specs.Bytes.{bytesOf}
 use Rattle.series.specs.Series.{plus, minus, modulus, rowCount, rowAt, rise, fall, isAdded, termCount, size, rowSum, rangeSum}
 use Rattle.series.specs.Bellard.{bellard}
-use Rattle.interval.specs.Interval.{Rule, isCharged, everyTerm, unitAt}
+use Rattle.digits.specs.Digits.{unitAt}
+use Rattle.interval.specs.Interval.{Rule, isCharged, everyTerm}
 use Rattle.run.specs.Refusal.{_⇐_, refusal, answer}
 use Rattle.run.specs.Run.{Limits, limitsOf, inRange, isTicket, bound}
 use Rattle.run.specs.Call.{bytesLeft, refusedBy, answered}

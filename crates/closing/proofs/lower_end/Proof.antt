@@ -2,8 +2,7 @@
 -- Assumes nothing.
 use Prim.Native.Nat.{_<_, _^_}
 use denote.Ref.{now}
-use Rattle.words.proofs.Joined.{joined-lt}
-use Rattle.closing.proofs.TopDigits.{low-word}
+use Rattle.words.proofs.Joined.{joined-lt, joined-low}
 use Rattle.closing.proofs.Closing.{position-read, lower-is}
 use borrow.Author.Needs.{needs}
 use Rattle.closing.proofs.lower_end.Statement.{statement}
@@ -35,7 +34,7 @@ returns c =
     lower-is _ (now (start .args .ledger)) _ _ _ (read .get .ensures) (c .before .before .in-run .ensures .0) (c .before .total .ensures) _ _
     (start .pre .1)
     (joined-lt _ _ (h .0) (h .1)) (joined-lt _ _ (l .0) (l .1))
-    (low-word _) (c .sub .ensures)
+    (joined-low _) (c .sub .ensures)
 
 pub lower-end-spec : {M : Type 1} → statement M
 lower-end-spec =

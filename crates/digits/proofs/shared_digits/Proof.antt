@@ -1,4 +1,4 @@
--- `closing::shared_digits` meets its contract. The loop's invariant: the numbers have the same quotient by 2 ^ (128 - 4 d).
+-- `digits::shared_digits` meets its contract. The loop's invariant: the numbers have the same quotient by 2 ^ (128 - 4 d).
 -- Assumes nothing.
 use Prim.Native.Nat.{_-_, _^_, _≤_, _<_}
 use mathlib.Core.Path.{sym, _∙_}
@@ -6,11 +6,9 @@ use native.Mathlib.Omega.{arith}
 use borrow.Author.Needs.{needs}
 use Rattle.words.specs.Words.{joined}
 use Rattle.words.proofs.Joined.{joined-lt}
-use Rattle.closing.proofs.TopDigits.{Share, share-none, share-next, share-stops, shared-is}
-use Rattle.closing.proofs.shared_digits.Statement.{statement}
-use Rattle.closing.proofs.shared_digits.Tie as tie
-use Rattle.closing.proofs.shared_digits.Reads as reads
-use Rattle.closing.proofs.shared_digits.Lts as lts
+use Rattle.digits.proofs.TopDigits.{Share, share-none, share-next, share-stops, shared-is}
+use Rattle.digits.proofs.shared_digits.Statement.{statement}
+use Rattle.digits.proofs.shared_digits.Tie as tie
 
 abbrev Inv-loop : tie.InvT-loop
 Inv-loop a b d₀ d = (d ≤ 32) × Share (joined (a .hi) (a .lo)) (joined (b .hi) (b .lo)) d

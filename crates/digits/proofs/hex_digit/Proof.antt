@@ -1,10 +1,10 @@
--- `closing::hex_digit` meets its contract.
+-- `digits::hex_digit` meets its contract.
 -- Assumes nothing.
 use borrow.Author.Needs.{needs}
 use borrow.Author.Tests.{lt-ltb, le-ltb}
-use Rattle.interval.specs.Digits.{hexDigit}
-use Rattle.closing.proofs.hex_digit.Statement.{statement}
-use Rattle.closing.proofs.hex_digit.Tie as tie
+use Rattle.digits.specs.Digits.{hexDigit}
+use Rattle.digits.proofs.hex_digit.Statement.{statement}
+use Rattle.digits.proofs.hex_digit.Tie as tie
 
 add-result : tie.Need-add-result
 add-result c = search needs

@@ -1,6 +1,6 @@
--- `closing::put_digits` meets its contract. The loop's invariant: the first i characters are written over the bytes lent.
+-- `digits::put_digits` meets its contract. The loop's invariant: the first i characters are written over the bytes lent.
 -- Assumes nothing.
-use Prim.Native.Nat.{ℕ, _+_, _-_, _/_, _≤_, _<_}
+use Prim.Native.Nat.{ℕ, _-_, _/_, _≤_, _<_}
 use mathlib.Core.Path.{_≡_, refl, sym, ap, _∙_}
 use mathlib.Core.List.{List, _++_}
 use native.Mathlib.Nat.{zero-add}
@@ -11,13 +11,10 @@ use lib.ListN.{length, drop, set, length-set}
 use lib.Seq.{paste, paste-zero}
 use Rattle.words.specs.Words.{joined}
 use Rattle.words.proofs.Bytes.{paste-step, paste-full}
-use Rattle.interval.specs.Interval.{unitAt}
-use Rattle.interval.specs.Digits.{hexDigit, lowDigits}
-use Rattle.closing.proofs.TopDigits.{length-low, text-digit}
-use Rattle.closing.proofs.put_digits.Statement.{statement}
-use Rattle.closing.proofs.put_digits.Tie as tie
-use Rattle.closing.proofs.put_digits.Reads as reads
-use Rattle.closing.proofs.put_digits.Lts as lts
+use Rattle.digits.specs.Digits.{unitAt, hexDigit, lowDigits}
+use Rattle.digits.proofs.TopDigits.{length-low, text-digit}
+use Rattle.digits.proofs.put_digits.Statement.{statement}
+use Rattle.digits.proofs.put_digits.Tie as tie
 
 abbrev text : ℕ → ℕ → ℕ → List ℕ
 text hi lo d = lowDigits d (pos (joined hi lo / unitAt d))

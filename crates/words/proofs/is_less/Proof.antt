@@ -1,10 +1,10 @@
--- `closing::is_less` meets its contract: the upper words decide where they differ, else the lower ones.
+-- `words::is_less` meets its contract: the upper words decide where they differ, else the lower ones.
 -- Assumes nothing.
 use borrow.Author.Needs.{needs}
 use Prim.Native.Nat.{_<_, _^_}
-use Rattle.closing.proofs.TopDigits.{less-low, less-high}
-use Rattle.closing.proofs.is_less.Statement.{statement}
-use Rattle.closing.proofs.is_less.Tie as tie
+use Rattle.words.proofs.Order.{less-low, less-high}
+use Rattle.words.proofs.is_less.Statement.{statement}
+use Rattle.words.proofs.is_less.Tie as tie
 
 returns : tie.Need-returns
 returns c = less-low _ _ _ _ (c .before .before .if1 .taken)

@@ -4,16 +4,14 @@ use mathlib.Core.Path.{_≡_, refl, sym, ap, _∙_, subst}
 use mathlib.Core.Bool.{Bool, true, false, cond}
 use mathlib.Core.Logic.{_⊎_, inl, inr, ⊎-elim}
 use Prim.Native.Nat.{ℕ, zero, suc, _+_, _*_, _-_, _^_, _<_, _≤_}
-use native.Mathlib.Nat.{div-div-eq-div-mul, mul-zero, mul-suc, pow-zero, pow-suc}
+use native.Mathlib.Nat.{div-div-eq-div-mul, le-of-suc-le-suc, lt-of-not-le, mul-comm, mul-suc, pow-suc, sub-zero}
 use native.Mathlib.Omega.{arith}
 use borrow.Author.Tests.{eqb-true, eq-eqb}
 use lib.IntN.{ℤ, pos, negsuc}
 use lib.Pow.{pow-add}
 use Rattle.algebra.specs.Whole.{quotient, sameℤ}
-use Rattle.algebra.proofs.Booleans.{below-or}
-use Rattle.series.specs.Series.{modulus}
-use Rattle.interval.specs.Interval.{Settles, Greatest, NoneSettled, OneOutcome, unitAt}
-use Rattle.interval.specs.Digits.{settledUpTo, settled}
+use Rattle.algebra.proofs.Booleans.{not-both}
+use Rattle.digits.specs.Digits.{unitAt, Settles, Greatest, NoneSettled, OneOutcome, settledUpTo, settled}
 
 same-eq : (a b : ℤ) → sameℤ a b ≡ true → a ≡ b
 unfolding sameℤ
@@ -50,20 +48,14 @@ module _ (lo hi : ℤ) where
   reaches : (n e : ℕ) → 1 ≤ e → e ≤ n → Same e → e ≤ settledUpTo lo hi n
   unfolding settledUpTo Same
   reaches zero e h l s = l
-  reaches (suc n) e h l s =
-      ⊎-elim (λ k. lower k (reaches n e h (omega arith) s)) (λ k. top k) (below-or e (suc n) (omega arith))
+  reaches (suc n) e h l s = go (sameℤ (quotient lo (unitAt (suc n))) (quotient hi (unitAt (suc n)))) refl (λ k. reaches n e h k s)
     where
-      lower : e < suc n → e ≤ settledUpTo lo hi n
-          → e ≤ cond (sameℤ (quotient lo (unitAt (suc n))) (quotient hi (unitAt (suc n)))) (suc n) (settledUpTo lo hi n)
-      lower k r = go (sameℤ (quotient lo (unitAt (suc n))) (quotient hi (unitAt (suc n))))
-        where
-          go : (b : Bool) → e ≤ cond b (suc n) (settledUpTo lo hi n)
-          go true = l
-          go false = r
-
-      top : e ≡ suc n
-          → e ≤ cond (sameℤ (quotient lo (unitAt (suc n))) (quotient hi (unitAt (suc n)))) (suc n) (settledUpTo lo hi n)
-      top k = rw (eq-same _ _ (subst (λ (d : ℕ). quotient lo (unitAt d) ≡ quotient hi (unitAt d)) k s)) (omega arith)
+      go : (b : Bool) → sameℤ (quotient lo (unitAt (suc n))) (quotient hi (unitAt (suc n))) ≡ b → (e ≤ n → e ≤ settledUpTo lo hi n)
+          → e ≤ cond b (suc n) (settledUpTo lo hi n)
+      go true f r = l
+      go false f r =
+          r (le-of-suc-le-suc (lt-of-not-le (λ k.
+          let q : e ≡ suc n = omega arith in not-both _ (eq-same _ _ (subst Same q s)) f)))
 
   pub at-most : (d : ℕ) → Settles lo hi d → d ≤ settled lo hi
   unfolding settled Settles Same
@@ -74,6 +66,10 @@ module _ (lo hi : ℤ) where
   greatest d g =
       let l = at-most d (g .settles) in
       ⊎-elim (λ z. absurd (let h = g .settles .0 in omega (arith, z, l, h))) (λ r. let u = g .most _ r in omega (arith, l, u)) (found 32 (omega arith))
+
+  pub settled-within : settled lo hi ≤ 32
+  unfolding settled Settles
+  settled-within = ⊎-elim (λ z. omega (arith, z)) (λ r. r .1) (found 32 (omega arith))
 
   pub settled-none : settled lo hi ≡ 0 → NoneSettled lo hi
   unfolding Settles
@@ -106,10 +102,15 @@ twice : (z : ℤ) (v w : ℕ) → quotient (quotient z v) w ≡ quotient z (v * 
 twice (pos n) v w = ap pos (div-div-eq-div-mul n v w)
 twice (negsuc n) v w = ap negsuc (div-div-eq-div-mul n v w)
 
-pub coarser : (e d : ℕ) → e ≤ d → d ≤ 32 → unitAt d * 2 ^ (4 * (d - e)) ≡ unitAt e
+pub sixteens : (c : ℕ) → 2 ^ (4 * c) ≡ 16 ^ c
+sixteens zero = refl
+sixteens (suc c) =
+    ap (λ (n : ℕ). 2 ^ n) (mul-suc 4 c) ∙ pow-add 2 (4 * c) 4 ∙ ap (λ (n : ℕ). n * 16) (sixteens c) ∙ sym (pow-suc 16 c)
+
+pub coarser : (e d : ℕ) → e ≤ d → d ≤ 32 → unitAt d * 16 ^ (d - e) ≡ unitAt e
 coarser e d h l =
     let q : 128 - 4 * d + 4 * (d - e) ≡ 128 - 4 * e = omega arith in
-    sym (pow-add 2 (128 - 4 * d) (4 * (d - e))) ∙ ap (λ (n : ℕ). 2 ^ n) q
+    rw (← sixteens (d - e), ← pow-add 2 (128 - 4 * d) (4 * (d - e)), q) refl
 
 pub fewer : (lo hi : ℤ) (d e : ℕ) → Settles lo hi d → 1 ≤ e → e ≤ d → Settles lo hi e
 unfolding Settles
@@ -118,17 +119,9 @@ fewer lo hi d e s o h =
       o,
       omega arith,
       subst (λ (u : ℕ). quotient lo u ≡ quotient hi u) (coarser e d h l)
-          (sym (twice lo (unitAt d) (2 ^ (4 * (d - e)))) ∙ ap (λ (z : ℤ). quotient z (2 ^ (4 * (d - e)))) (s .2)
-          ∙ twice hi (unitAt d) (2 ^ (4 * (d - e)))),
+          (sym (twice lo (unitAt d) (16 ^ (d - e))) ∙ ap (λ (z : ℤ). quotient z (16 ^ (d - e))) (s .2) ∙ twice hi (unitAt d) (16 ^ (d - e))),
     )
 
-pub pow-step : (s c : ℕ) → 2 ^ (s * c) ≡ (2 ^ s) ^ c
-pow-step s zero = ap (λ (n : ℕ). 2 ^ n) (mul-zero s) ∙ sym (pow-zero (2 ^ s))
-pow-step s (suc c) =
-    ap (λ (n : ℕ). 2 ^ n) (mul-suc s c) ∙ pow-add 2 (s * c) s ∙ ap (λ (n : ℕ). n * 2 ^ s) (pow-step s c) ∙ sym (pow-suc (2 ^ s) c)
-
 -- 2 ^ 128 is 16 ^ d times 2 ^ (128 - 4 d)
-pub split-modulus : (d : ℕ) → d ≤ 32 → modulus ≡ 16 ^ d * unitAt d
-split-modulus d h =
-    let e : 128 ≡ 4 * d + (128 - 4 * d) = omega arith in
-    ap (λ (n : ℕ). 2 ^ n) e ∙ pow-add 2 (4 * d) (128 - 4 * d) ∙ ap (λ (n : ℕ). n * unitAt d) (pow-step 4 d)
+pub split-modulus : (d : ℕ) → d ≤ 32 → 2 ^ 128 ≡ 16 ^ d * unitAt d
+split-modulus d h = sym (mul-comm (16 ^ d) (unitAt d) ∙ (rw sub-zero at (coarser 0 d (omega arith) h)))

@@ -1,10 +1,10 @@
--- `closing::digit_at` meets its contract: digits 0 to 15 stand in the upper word, the others in the lower one.
+-- `digits::digit_at` meets its contract: digits 0 to 15 stand in the upper word, the others in the lower one.
 -- Assumes nothing.
 use borrow.Author.Needs.{needs}
 use Prim.Native.Nat.{_<_, _^_}
-use Rattle.closing.proofs.TopDigits.{digit-high, digit-low}
-use Rattle.closing.proofs.digit_at.Statement.{statement}
-use Rattle.closing.proofs.digit_at.Tie as tie
+use Rattle.digits.proofs.TopDigits.{digit-high, digit-low}
+use Rattle.digits.proofs.digit_at.Statement.{statement}
+use Rattle.digits.proofs.digit_at.Tie as tie
 
 mul-result : tie.Need-mul-result
 mul-result c = search needs
@@ -33,7 +33,8 @@ returns c =
 returns-2 : tie.Need-returns-2
 returns-2 c =
     let s = c .before .before in
-    digit-low (s .args .x .hi) (s .args .x .lo) (s .args .i) (c .before .if1 .left) (s .pre)
+    let h : s .args .x .lo < 2 ^ 64 = search needs in
+    digit-low (s .args .x .hi) (s .args .x .lo) (s .args .i) h (c .before .if1 .left) (s .pre)
 
 pub digit-at-spec : {M : Type 1} → statement M
 digit-at-spec =
