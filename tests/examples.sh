@@ -101,6 +101,14 @@ ${CC:-gcc} -std=c99 -Wall -Wextra -Werror -Iinclude examples/formats.c "$ENGINE"
 same "the bytes in docs/FORMATS.md" "$(sed -n '/^```text/,/^```$/p' docs/FORMATS.md | grep -v '^```')" "$("$scratch/formats")"
 unwritable "$scratch/formats"
 
+# It opens runs with powers of two alone, and two ledgers of the document have other counts.
+power='(c & (c - 1)) != 0 ? -2 :'
+wrapped opened examples/formats.c "$(instead bbp_open "$power $(call bbp_open)")" \
+    "$(instead bbp_check_open "$power $(call bbp_check_open)")"
+prints 0 "$("$scratch/formats")" "$scratch/opened"
+same "block counts that are no powers of two" "$(grep -h -o 'C = [0-9]*' docs/FORMATS.md README.md include/bbp.h | sort -u |
+    awk '{ for (c = $3; c > 1; c /= 2); if (c != 1) print $3 }' | tr '\n' ' ')" "14 33 "
+
 # Each row of its table of blocks has two lines in tests/vectors.txt, for the halves of the block.
 rows_seen=0
 while read -r kind p c block first cut end; do
