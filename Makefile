@@ -73,6 +73,7 @@ COMMANDS = 'bash tests/header.sh build' 'bash tests/exports.sh crates include/bb
 	'bash tests/mutants/run.sh build/mutants $(TESTS)' \
 	'bash tests/mutants/libraries.sh build/mutants $(STANDIN) $(SYMBOLS)' 'bash tests/symbols.sh $(ENGINE) $(SYMBOLS)' \
 	'bash tests/branches.sh $(ENGINE) $(call OF_PROVED,3 24)' 'bash tests/sources.sh crates' \
+	'bash tests/names.sh docs/TRACE.md docs/ARCHITECTURE.md' 'bash tests/lines.sh crates' \
 	$(foreach t,$(TESTS),'$(OUT)/test_$(t) $(SEED) $(COUNT)') \
 	'bash tests/examples.sh $(OUT)/minimal $(OUT)/acceptance' \
 	'$(OUT)/published 1000000' '$(OUT)/published overlap 1000000' \

@@ -17,15 +17,15 @@
  * with nothing of it posted. What the look answered is said on standard error, a
  * line for each sheet:
  *
- *     look at the sheet of row 0: 30 of 35 tickets would remain
+ *     look at the sheet of row 0: 48 of 56 tickets would remain
  *
  * Check runs have no look; their sheets are posted without one.
  *
  * Work is charged by squarings. Before the work the quote of the whole run is
  * said on standard error, and before the closing what was made of it:
  *
- *     quote: 28243 squarings in 35 tickets
- *     squarings: 22615 made, 22615 quoted in 28 tickets worked; 5628 quoted in 7 tickets of sheets
+ *     quote: 28243 squarings in 56 tickets
+ *     squarings: 22268 made, 22268 quoted in 42 tickets worked; 5975 quoted in 14 tickets of sheets
  *
  * Tickets that are worked one by one, whole or by halves, hand back what they
  * made. Sheets do not carry it, so their tickets are named apart, with what they
@@ -59,10 +59,10 @@
  *
  * acceptance --rows LEDGER [ROW ..] - shows which rows of a kept ledger to work
  * again. LEDGER is a file, `-` being standard input; tickets may be missing
- * from it, and by its size it is that of a check run or not. For each row named,
- * for all where none is, the marked tickets are worked anew, and a line has the
- * row, its sum in the ledger and the sum of these tickets modulo 2^128, both in
- * hexadecimal:
+ * from it, its block count may be any from 1 to 256, and by its size it is that
+ * of a check run or not. For each row named, for all where none is, the marked
+ * tickets are worked anew, and a line has the row, its sum in the ledger and the
+ * sum of these tickets modulo 2^128, both in hexadecimal:
  *
  *     row 3 ledger aaaf9647.. worked aaaf9647..
  *
@@ -332,6 +332,16 @@ static const struct kind *read_ledger(const char *name, uint8_t *ledger, size_t 
     return kind;
 }
 
+/* Starts from the head of a kept ledger. It is not opened: its block count need not be one that runs are opened with. */
+static void start_anew(struct run *run, const struct kind *kind, const uint8_t *ledger)
+{
+    run->kind = kind;
+    run->p = number_at(ledger, 8);
+    run->c = number_at(ledger + 8, 2);
+    memset(run->ledger, 0, sizeof run->ledger);
+    memcpy(run->ledger, ledger, BBP_ROW_SUM_AT(0));
+}
+
 static int is_marked(const struct kind *kind, const uint8_t *ledger, uint64_t row, uint64_t block)
 {
     return ledger[kind->marks_at + 32 * row + block / 8] >> block % 8 & 1;
@@ -386,7 +396,7 @@ static int show_rows(const char *name, int count, char **names)
     int shown[BBP_ROWS], status = 0;
     const struct kind *kind = read_ledger(name, ledger, sizeof ledger);
     take_rows(kind->rows, count, names, shown);
-    open_run(&run, kind, number_at(ledger, 8), number_at(ledger + 8, 2));
+    start_anew(&run, kind, ledger);
     work_marked(&run, ledger, shown);
     for (uint64_t row = 0; row < kind->rows; row++)
         if (shown[row] && print_row(ledger, run.ledger, row))

@@ -1,14 +1,18 @@
 /*
  * formats - prints the worked examples of docs/FORMATS.md, each with its title:
- * a run at p = 1 from opening to closing, the halves of a ticket, and the sums
- * of another run; first of a Bellard run, then the same of a check run, with
- * the word `check` before its titles. A look is there in the Bellard run alone.
- * Then, of both in the same order, the squarings of a ticket and its halves, and
- * the quotes at the last position.
+ * a run at p = 1 from opening to closing, the halves of a ticket, a kept ledger
+ * with another block count, and the sums of another run; first of a Bellard run,
+ * then the same of a check run, with the word `check` before its titles. A look
+ * is there in the Bellard run alone. Then, of both in the same order, the
+ * squarings of a ticket and its halves, and the quotes at the last position.
+ *
+ * Every run that is opened has a block count that is a power of two. The kept
+ * ledgers have not: they are made from the layout and not by opening.
  */
 #include <bbp.h>
 
 #include <stdio.h>
+#include <string.h>
 
 #include "kinds.h"
 #include "program.h"
@@ -20,18 +24,21 @@ struct ticket {
 };
 
 /*
- * A run at P with a term in each block, two of its tickets, which come on a
- * sheet, a ticket that is halved, and a ticket at CHARGED_P for its squarings.
+ * A run at P whose blocks have one term or none, a ticket of it that is empty
+ * and two with a term, which come on a sheet; a ticket that is halved, and a
+ * ticket at CHARGED_P for its squarings; the block count of the kept ledger,
+ * which has a term in each block.
  */
 struct example {
     const struct kind *kind;
-    struct ticket posted[2], halved, charged;
+    struct ticket empty, posted[2], halved, charged;
+    uint8_t kept_c;
     uint8_t ledger[BBP_LEDGER_SIZE]; /* a check ledger is the shorter */
 };
 
 static struct example examples[KINDS] = {
-    {&kinds[BELLARD], {{14, 0, 0}, {14, 3, 1}}, {3, 2, 2}, {3, 2, 0}, {0}},
-    {&kinds[CHECK], {{33, 0, 1}, {33, 2, 1}}, {7, 1, 6}, {3, 0, 0}, {0}},
+    {&kinds[BELLARD], {16, 0, 0}, {{16, 0, 1}, {16, 3, 2}}, {4, 3, 3}, {4, 2, 0}, 14, {0}},
+    {&kinds[CHECK], {64, 0, 0}, {{64, 0, 3}, {64, 2, 3}}, {8, 1, 7}, {2, 0, 0}, 33, {0}},
 };
 
 static int is_zero(const uint8_t *line, size_t len)
@@ -41,13 +48,13 @@ static int is_zero(const uint8_t *line, size_t len)
     return len == 0;
 }
 
-/* Lines of 16 bytes with the place of the first; lines of zeros alone are left out. */
+/* Lines of 16 bytes with the place of the first; where there are several, those of zeros alone are left out. */
 static void print_bytes(const struct example *example, const char *title, const uint8_t *bytes, size_t len)
 {
     printf("%s%s\n", example->kind->word, title);
     for (size_t at = 0; at < len; at += LINE) {
         size_t count = len - at < LINE ? len - at : LINE;
-        if (is_zero(bytes + at, count))
+        if (len > LINE && is_zero(bytes + at, count))
             continue;
         printf("%4zu ", at);
         for (size_t i = 0; i < count; i++)
@@ -119,11 +126,10 @@ static void post_sheet(struct example *example)
     print_ledger(example, "ledger after posting that sheet");
 }
 
-/* Every ticket once: those of the sheet are refused a second time. */
-static void post_rest(struct example *example)
+/* Every ticket of a run at P: those that are marked already are refused. */
+static void post_rest(struct example *example, uint64_t c)
 {
     const struct kind *kind = example->kind;
-    uint64_t c = example->posted[0].c;
     uint8_t sum[BBP_SUM_SIZE], squarings[BBP_SQUARINGS_SIZE];
     for (uint64_t row = 0; row < kind->rows; row++)
         for (uint64_t block = 0; block < c; block++) {
@@ -143,22 +149,48 @@ static void print_total(const struct example *example)
     print_bytes(example, "total of its row sums", total, sizeof total);
 }
 
-static void print_example(struct example *example)
+static void print_digits(const struct example *example)
+{
+    uint8_t digits[BBP_DIGITS_SIZE];
+    printf("its closing: position, d, digits\n");
+    print_closing(example->kind, P, example->ledger, digits);
+}
+
+static void print_run(struct example *example)
 {
     const struct kind *kind = example->kind;
-    uint8_t digits[BBP_DIGITS_SIZE];
+    uint64_t c = example->posted[0].c;
+    finished("open", kind->open(P, c, example->ledger, kind->ledger_size));
+    print_ledger(example, "ledger, fresh");
+    post_sheet(example);
+    post_rest(example, c);
+    print_ledger(example, "ledger with every ticket posted");
+    print_total(example);
+    print_digits(example);
+}
+
+/* Its head is written by hand, so that its count need not be one that runs are opened with. */
+static void print_kept(struct example *example)
+{
+    char title[80];
+    memset(example->ledger, 0, sizeof example->ledger);
+    example->ledger[0] = P;
+    example->ledger[8] = example->kept_c;
+    post_rest(example, example->kept_c);
+    snprintf(title, sizeof title, "kept ledger of p = %d, C = %d, every ticket posted", P, example->kept_c);
+    print_ledger(example, title);
+    print_digits(example);
+}
+
+static void print_example(struct example *example)
+{
+    print_sum(example, P, example->empty);
     print_sum(example, P, example->posted[0]);
     print_sum(example, P, example->posted[1]);
     print_halves(example);
-    finished("open", kind->open(P, example->posted[0].c, example->ledger, kind->ledger_size));
-    print_ledger(example, "ledger, fresh");
-    post_sheet(example);
-    post_rest(example);
-    print_ledger(example, "ledger with every ticket posted");
-    print_total(example);
-    printf("its closing: position, d, digits\n");
-    print_closing(kind, P, example->ledger, digits);
-    for (uint64_t row = 0; row < kind->rows; row++)
+    print_run(example);
+    print_kept(example);
+    for (uint64_t row = 0; row < example->kind->rows; row++)
         print_sum(example, 1000, (struct ticket){1, row, 0});
 }
 

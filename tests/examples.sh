@@ -2,7 +2,8 @@
 # examples.sh MINIMAL ACCEPTANCE - the examples, run: digits of pi at 1 and 1,000, refusals, arguments that are no
 # numbers, output that cannot be written, sheets looked at before they are posted, tickets worked by halves, squarings
 # quoted and made, check runs beside the others, ledgers of both kinds kept, also in place of older ones and without
-# standard descriptors, and their rows shown, and the bytes that docs/FORMATS.md shows.
+# standard descriptors, and their rows shown, also of block counts that are no powers of two, and the bytes that
+# docs/FORMATS.md shows.
 # ENGINE is the library that they are built with.
 set -u
 minimal=$1
@@ -21,7 +22,7 @@ wrong_size="a slice of the wrong size"
 same minimal "$("$minimal")" "${line##* }"
 prints 0 "$first_line" "$acceptance" 1
 prints 0 "$first_line" "$acceptance" 1 1
-prints 0 "$line" "$acceptance" 1000 3
+prints 0 "$line" "$acceptance" 1000 2
 prints 0 "$line" "$acceptance" 1000 256
 
 for run in 0 '1 0' '1 257' 1152921504606846977 18446744073709551615 '--halves 0' '--halves 1 257' '--check 0' \
@@ -51,8 +52,8 @@ done
 same "ledgers kept from arguments that are refused" "$(ls "$ledger" "$ledger.check" 2>/dev/null)" ""
 
 unwritable "$minimal"
-unwritable "$acceptance" 1000 3
-unwritable "$acceptance" --halves 1000 3
+unwritable "$acceptance" 1000 2
+unwritable "$acceptance" --halves 1000 2
 
 for call in open work post close; do
     refusing examples/minimal.c bbp_$call
@@ -62,14 +63,14 @@ wrapped refusing examples/minimal.c "$(instead bbp_close -12)"
 ends 1 "$scratch/refusing"
 same "what minimal says of a number of two digits" "$said" "refused 12"
 for call in open quote work post sheet_write sheet_read look sheet_post close; do
-    refusing examples/acceptance.c bbp_$call 1000 5
+    refusing examples/acceptance.c bbp_$call 1000 4
     same "what acceptance says of $call" "$said" "${call/_/ }: refused 7: ticket marked already"
-    ends 1 "$scratch/refusing" --check 1000 5
+    ends 1 "$scratch/refusing" --check 1000 4
     same "what acceptance --check says of $call" "$said" "${call/_/ }: refused 7: ticket marked already"
 done
 
 for half in lower upper; do
-    refusing examples/acceptance.c bbp_work_$half --halves 1000 5
+    refusing examples/acceptance.c bbp_work_$half --halves 1000 4
     same "what acceptance says of the $half half" "$said" "work $half: refused 7: ticket marked already"
 done
 
@@ -78,9 +79,9 @@ for call in open quote work post sheet_write sheet_read sheet_post close work_lo
     wrapped refusing examples/acceptance.c "$(instead bbp_check_$call -7)"
     before=$line option=
     case $call in open | quote) before= ;; work_*) option=--halves ;; esac
-    prints 1 "$before" "$scratch/refusing" --check $option 1000 5
+    prints 1 "$before" "$scratch/refusing" --check $option 1000 4
     same "what acceptance --check says of check $call" "$said" "check ${call/_/ }: refused 7: ticket marked already"
-    prints 0 "$line" "$scratch/refusing" $option 1000 5
+    prints 0 "$line" "$scratch/refusing" $option 1000 4
 done
 
 # A sheet that holds another ticket than the one ordered, or none.
@@ -90,7 +91,7 @@ for calls in bbp_ bbp_check_; do
     engine=$(call ${calls}sheet_read)
     for answer in "$engine - 1" "(list_len = (size_t)$engine, list[0] ^= 1, (int64_t)list_len)"; do
         wrapped other examples/acceptance.c "$(instead ${calls}sheet_read "$answer")"
-        prints 1 "$before" "$scratch/other" --check 1000 5
+        prints 1 "$before" "$scratch/other" --check 1000 4
         same "what is said of another ticket" "$said" "${before:+check }sheet read: not the tickets that were ordered"
     done
 done
@@ -99,6 +100,31 @@ done
 ${CC:-gcc} -std=c99 -Wall -Wextra -Werror -Iinclude examples/formats.c "$ENGINE" ${LDFLAGS:-} -o "$scratch/formats" || exit 1
 same "the bytes in docs/FORMATS.md" "$(sed -n '/^```text/,/^```$/p' docs/FORMATS.md | grep -v '^```')" "$("$scratch/formats")"
 unwritable "$scratch/formats"
+
+# It opens runs with powers of two alone, and two ledgers of the document have other counts.
+power='(c & (c - 1)) != 0 ? -2 :'
+wrapped opened examples/formats.c "$(instead bbp_open "$power $(call bbp_open)")" \
+    "$(instead bbp_check_open "$power $(call bbp_check_open)")"
+prints 0 "$("$scratch/formats")" "$scratch/opened"
+same "block counts that are no powers of two" "$(grep -h -o 'C = [0-9]*' docs/FORMATS.md README.md include/bbp.h | sort -u |
+    awk '{ for (c = $3; c > 1; c /= 2); if (c != 1) print $3 }' | tr '\n' ' ')" "14 33 "
+
+# Each row of its table of blocks has two lines in tests/vectors.txt, for the halves of the block.
+rows_seen=0
+while read -r kind p c block first cut end; do
+    if [ "$kind" = check ]; then kind=check-; else kind=; fi
+    same "the block $block of p = $p, C = $c in docs/FORMATS.md" "$(grep -c -x -e "${kind}lower-half $p $c $block $first $cut" \
+        -e "${kind}upper-half $p $c $block $cut $end" tests/vectors.txt)" 2
+    rows_seen=$((rows_seen + 1))
+done < <(sed -n '/^| run | p | C | block | terms from |/,/^$/s/^| [Bc]/&/p' docs/FORMATS.md | tr -d '|,' |
+    sed 's/2^60/1152921504606846976/; s/2^59/576460752303423488/')
+same "the rows of that table" $rows_seen 13
+
+# The lines that examples/acceptance.c and README.md quote.
+prints 0 "$line" "$acceptance" 1000 8
+same "the quote in examples/acceptance.c" "$(grep -c -x -F -e " *     ${billed%%$'\n'*}" -e " *     ${billed#*$'\n'}" examples/acceptance.c)" 2
+same "the look in examples/acceptance.c" "$(grep -c -x -F " *     ${looked%%$'\n'*}" examples/acceptance.c)" 1
+same "the look in README.md" "$(grep -c -F "\`${looked%%$'\n'*}\`" README.md)" 1
 
 # What stands before the words of lines in tests/vectors.txt, and the rows, of Bellard's runs; check_rows COMMAND.. - the
 # same of check runs.
@@ -131,21 +157,47 @@ lines() {
     done
 }
 
+# lines_of TITLE - the lines of bytes below that title in docs/FORMATS.md.
+lines_of() { sed -n "/^$1/,/^[^ ]/p" docs/FORMATS.md | sed -n '/^ /p'; }
+
 # shown WORD FILE SIZE - where lines of zeros are left out, the ledger is the full one that docs/FORMATS.md shows.
 shown() {
     same "the ${1}ledger kept" "$(od -An -v -tx1 -w16 "$2" | grep -v '^\( 00\)*$')" \
-        "$(sed -n "/^${1}ledger with every/,/^${1}total/p" docs/FORMATS.md | sed -n 's/^ *[0-9]* \( .*\)/\1/p')"
+        "$(lines_of "${1}ledger with every" | sed 's/^ *[0-9]* //')"
     same "its size" "$(wc -c <"$2")" "$3"
 }
 
+# written TITLE SIZE - the bytes of a ledger that docs/FORMATS.md shows, with the lines of zeros that it leaves out.
+written() {
+    local at byte line
+    head -c "$2" /dev/zero >"$ledger"
+    while read -r at line; do
+        for byte in $line; do printf '%b' "\\x$byte"; done | dd of="$ledger" bs=16 seek=$((at / 16)) conv=notrunc status=none
+    done < <(lines_of "$1")
+}
+
+# The kept ledgers of docs/FORMATS.md, whose block counts are no powers of two. Their rows are worked without opening a run.
+kept_ledgers() {
+    written 'kept ledger' 352
+    same "the block count of the kept ledger" "$(od -An -tu1 -j 8 -N 1 "$ledger" | tr -d ' ')" 14
+    prints 0 "$(lines 1)" "$acceptance" --rows "$ledger"
+    same "row 3 in docs/FORMATS.md" "$(sed -n 's/^    \(row 3 ledger .*\)/\1/p' docs/FORMATS.md)" "$(lines 1 | sed -n 4p)"
+    wrapped unopened examples/acceptance.c "$(instead bbp_open -7)" "$(instead bbp_check_open -7)"
+    prints 0 "$(lines 1)" "$scratch/unopened" --rows "$ledger"
+    written 'check kept ledger' 208
+    same "the block count of the kept check ledger" "$(od -An -tu1 -j 8 -N 1 "$ledger" | tr -d ' ')" 33
+    prints 0 "$(check_rows lines 1)" "$acceptance" --rows "$ledger"
+    prints 0 "$(check_rows lines 1)" "$scratch/unopened" --rows "$ledger"
+}
+
 keeping() {
-    prints 0 "$first_line" "$acceptance" --keep "$ledger" 1 14
+    prints 0 "$first_line" "$acceptance" --keep "$ledger" 1 16
     shown '' "$ledger" 352
     same "what is kept of a check run where there is none" "$(ls "$ledger".* 2>/dev/null)" ""
     cp "$ledger" "$scratch/before"
     ends 1 "$acceptance" --keep "$ledger" 0
     same "the ledger kept before, after a run refused" "$(cmp "$ledger" "$scratch/before")" ""
-    ends 1 "$acceptance" --keep /dev/full 1000 3
+    ends 1 "$acceptance" --keep /dev/full 1000 2
     same "what is said of a full device" "${said%%:*}" /dev/full
     # Known before the work, which would not end.
     ends 1 timeout 60 "$acceptance" --keep "$scratch/none/ledger" 1152921504606846976
@@ -154,7 +206,7 @@ keeping() {
 
 full_ledgers() {
     local run
-    for run in '1 1' '1 14' '1 256' '1000 1' '1000 5'; do
+    for run in '1 1' '1 16' '1 256' '1000 1' '1000 4'; do
         "$acceptance" --keep "$ledger" $run >/dev/null 2>&1
         prints 0 "$(lines ${run% *})" "$acceptance" --rows "$ledger"
         same "what --rows says of a full ledger" "$said" ""
@@ -171,7 +223,7 @@ full_ledgers() {
 spoiled() {
     local row=$1 sum=$2
     wrapped spoiled examples/acceptance.c "$4"
-    prints 0 "1000 29 $3" "$scratch/spoiled" --keep "$ledger" 1000 5
+    prints 0 "1000 29 $3" "$scratch/spoiled" --keep "$ledger" 1000 4
     prints 3 "$(lines 1000 "$row" "$sum")" "$acceptance" --rows "$ledger"
     prints 3 "row $row ledger $sum worked $(sum_of 1000 "$row") differs" "$acceptance" --rows "$ledger" "$row"
     prints 0 "$(lines 1000 | sed "$((row + 1))d")" "$acceptance" --rows "$ledger" $(seq 0 6 | grep -v "$row")
@@ -227,14 +279,14 @@ failing() {
     shift 2
     wrapped failing examples/acceptance.c '#include <errno.h>' '#include <signal.h>' '#include <stdio.h>' \
         '#include <unistd.h>' "$@"
-    ends 1 "$scratch/failing" $options 1000 5
+    ends 1 "$scratch/failing" $options 1000 4
     same "what is said of $*" "$said" "$text"
 }
 
 # The closing line and the ledger are those of whole tickets.
 halves() {
     local run closing failed="the process of an upper half failed" kept=$scratch/kept none_left
-    for run in 1 '1 1' '1 14' '2 256' '1000 1' '1000 3' '1000 256' '12345 7'; do
+    for run in 1 '1 1' '1 16' '2 256' '1000 1' '1000 2' '1000 256' '12345 8'; do
         closing=$("$acceptance" --keep "$kept" $run 2>/dev/null)
         prints 0 "$closing" "$acceptance" --halves $run
         same "what --halves says" "$said" ""
@@ -249,10 +301,10 @@ halves() {
     wrapped halves examples/acceptance.c '#include <sys/wait.h>' "$(instead bbp_work -7)" "$(instead bbp_check_work -7)" \
         "$(instead bbp_close "$none_left ? $(call bbp_close) : -9")" \
         "$(instead bbp_check_close "$none_left ? $(call bbp_check_close) : -9")"
-    prints 0 "$line" "$scratch/halves" --halves 1000 5
-    prints 0 "$both" "$scratch/halves" --halves --check 1000 5
+    prints 0 "$line" "$scratch/halves" --halves 1000 4
+    prints 0 "$both" "$scratch/halves" --halves --check 1000 4
     wrapped whole examples/acceptance.c "$(instead bbp_work_lower -7)" "$(instead bbp_work_upper -7)"
-    prints 0 "$line" "$scratch/whole" 1000 5
+    prints 0 "$line" "$scratch/whole" 1000 4
     # The child is killed, ends without a word, writes short, or fails after it wrote.
     failing --halves "$failed" "$(instead bbp_work_upper 'raise(SIGKILL)')"
     failing --halves "$failed" "$(instead bbp_work_upper '(_exit(0), 0)')"
@@ -279,7 +331,7 @@ looks() {
 looking() {
     local run closing bar='^'$'\r''\[[#.]*\] *[0-9]*%  [0-9]* s spent, [0-9]* s left   '
     wrapped seen examples/acceptance.c '#include <unistd.h>' '#define isatty(file) 1'
-    for run in '1 1' '1 3' '1 14' '1000 5' '1000 256'; do
+    for run in '1 1' '1 2' '1 16' '1000 4' '1000 256'; do
         case $run in '1 '*) closing=$first_line ;; *) closing=$line ;; esac
         prints 0 "$closing" "$acceptance" $run
         same "the looks of $run" "$looked" "$(looks ${run#* })"
@@ -288,15 +340,15 @@ looking() {
         same "the looks of $run on a terminal" "$looked" "$(looks ${run#* })"
         same "what else is said of $run on a terminal" "$(grep -a -v -e "$bar" <<<"$said")" ""
     done
-    prints 0 "$both" "$acceptance" --check --halves 1000 5
-    same "the looks beside a check run" "$looked" "$(looks 5)"
+    prints 0 "$both" "$acceptance" --check --halves 1000 4
+    same "the looks beside a check run" "$looked" "$(looks 4)"
     same "what else is said beside a check run" "$said" ""
     wrapped before examples/acceptance.c 'static const uint8_t *seen;' "$(instead bbp_look "(seen = sheet, $(call bbp_look))")" \
         "$(instead bbp_sheet_post "sheet == seen ? (seen = NULL, $(call bbp_sheet_post)) : -3")"
-    prints 0 "$both" "$scratch/before" --check 1000 5
+    prints 0 "$both" "$scratch/before" --check 1000 4
     # A sheet that would be refused is not posted.
     wrapped stopped examples/acceptance.c "$(instead bbp_look -7)" "$(instead bbp_sheet_post -3)"
-    ends 1 "$scratch/stopped" 1000 5
+    ends 1 "$scratch/stopped" 1000 4
     same "what is said of a sheet that would be refused" "$said" "look: refused 7: ticket marked already"
 }
 
@@ -308,12 +360,12 @@ made_line() {
     echo "$1squarings: $2 made, $2 quoted in $3 tickets worked${4:+; $4 quoted in $5 tickets of sheets}"
 }
 
-# With C = 7 block 3 of each row comes on its sheet, and the others are worked: both have their lines in tests/vectors.txt.
+# With C = 4 block 3 of each row comes on its sheet, and the others are worked: both have their lines in tests/vectors.txt.
 run_lines() {
     local word=$1 p=$2 count=$3 supplied
-    supplied=$(squarings_of "$p" 7 3)
-    quote_line "$word" "$p" $((7 * count))
-    made_line "$word" $(($(squarings_of "$p" 1 0) - supplied)) $((6 * count)) "$supplied" "$count"
+    supplied=$(squarings_of "$p" 4 3)
+    quote_line "$word" "$p" $((4 * count))
+    made_line "$word" $(($(squarings_of "$p" 1 0) - supplied)) $((3 * count)) "$supplied" "$count"
 }
 
 # The quote before the work, and what was made of it; both quotes before either run.
@@ -322,10 +374,10 @@ billing() {
     for p in 1000 12345; do
         bellard=$(run_lines '' $p 7) check=$(check_rows run_lines 'check ' $p 4)
         for halves in '' --halves; do
-            "$acceptance" $halves $p 7 >/dev/null 2>"$scratch/err"
+            "$acceptance" $halves $p 4 >/dev/null 2>"$scratch/err"
             same "the first line of $halves $p" "$(head -n 1 "$scratch/err")" "${bellard%%$'\n'*}"
             same "the last line of $halves $p" "$(tail -n 1 "$scratch/err")" "${bellard#*$'\n'}"
-            "$acceptance" $halves --check $p 7 >/dev/null 2>"$scratch/err"
+            "$acceptance" $halves --check $p 4 >/dev/null 2>"$scratch/err"
             same "the quotes of --check $halves $p" "$(head -n 2 "$scratch/err")" \
                 "${bellard%%$'\n'*}"$'\n'"${check%%$'\n'*}"
             same "the squarings of --check $halves $p" "$(grep squarings: "$scratch/err")" \
@@ -335,21 +387,21 @@ billing() {
     # Position 2^60, which no machine can work: the seven quotes of tests/vectors.txt come to this.
     ends 124 timeout 1 "$acceptance" 1152921504606846976
     same "the quote of position 2^60" "$billed" "quote: 193690812773950294528 squarings in 1792 tickets"
-    ends 124 timeout 1 "$acceptance" --check 576460752303423488 3
-    same "the check quote of position 2^59" "${billed#*$'\n'}" "check quote: 136044737543607946694 squarings in 12 tickets"
+    ends 124 timeout 1 "$acceptance" --check 576460752303423488 4
+    same "the check quote of position 2^59" "${billed#*$'\n'}" "check quote: 136044737543607946694 squarings in 16 tickets"
 }
 
 # Without sheets their part is left out; with them, both parts come to the quote.
 billed_runs() {
     local p c made supplied
     for p in 1 17; do
-        for c in 1 3; do
+        for c in 1 2; do
             prints 0 "$("$acceptance" $p 2>/dev/null)" "$acceptance" $p $c
             same "the squarings of $p $c" "$billed" \
                 "$(quote_line '' $p $((7 * c)); made_line '' "$(squarings_of $p 1 0)" $((7 * c)))"
         done
     done
-    for c in 4 5 255 256; do
+    for c in 4 8 128 256; do
         prints 0 "$line" "$acceptance" 1000 $c
         read -r _ made _ _ _ _ _ _ _ supplied _ <<<"${billed#*$'\n'}"
         same "all squarings of C = $c" $((made + supplied)) "$(squarings_of 1000 1 0)"
@@ -360,17 +412,17 @@ billed_runs() {
 
 # The rows shown, with their own tickets alone. No term of row 0 reaches 128 at p = 1.
 billed_rows() {
-    "$acceptance" --check --keep "$ledger" 1000 5 >/dev/null 2>&1
+    "$acceptance" --check --keep "$ledger" 1000 4 >/dev/null 2>&1
     prints 0 "$(lines 1000)" "$acceptance" --rows "$ledger"
-    same "the squarings of --rows" "$billed" "$(quote_line '' 1000 35; made_line '' "$(squarings_of 1000 1 0)" 35)"
+    same "the squarings of --rows" "$billed" "$(quote_line '' 1000 28; made_line '' "$(squarings_of 1000 1 0)" 28)"
     prints 0 "$(lines 1000 | sed -n '3p; 7p')" "$acceptance" --rows "$ledger" 6 2
-    same "the squarings of two rows" "$billed" "$(quote_line '' 1000 10 2 6; made_line '' "$(squarings_of 1000 1 0 2 6)" 10)"
+    same "the squarings of two rows" "$billed" "$(quote_line '' 1000 8 2 6; made_line '' "$(squarings_of 1000 1 0 2 6)" 8)"
     prints 0 "$(check_rows lines 1000)" "$acceptance" --rows "$ledger.check"
     same "the squarings of check rows" "$billed" \
-        "$(check_rows quote_line 'check ' 1000 20; made_line 'check ' "$(check_rows squarings_of 1000 1 0)" 20)"
-    "$acceptance" --keep "$ledger" 1 3 >/dev/null 2>&1
+        "$(check_rows quote_line 'check ' 1000 16; made_line 'check ' "$(check_rows squarings_of 1000 1 0)" 16)"
+    "$acceptance" --keep "$ledger" 1 2 >/dev/null 2>&1
     prints 0 "$(lines 1 | sed -n 1p)" "$acceptance" --rows "$ledger" 0
-    same "no squarings" "$billed" "$(quote_line '' 1 3 0; made_line '' 0 3)"
+    same "no squarings" "$billed" "$(quote_line '' 1 2 0; made_line '' 0 2)"
     same "no squarings in tests/vectors.txt" "$(squarings_of 1 1 0 0)" 0
 }
 
@@ -379,7 +431,7 @@ billed_rows() {
 wrong_bill() {
     wrapped billed examples/acceptance.c 'static int64_t given;' "$(instead "$1" "(given = $(call "$1"), $2, given)")"
     rm -f "$ledger" "$ledger.check"
-    prints 1 "$4" "$scratch/billed" $3 --keep "$ledger" 1000 7
+    prints 1 "$4" "$scratch/billed" $3 --keep "$ledger" 1000 4
     same "what is said where $1 does $2" "$said" "$5squarings: not those that were quoted"
     same "the line where $1 does $2" "$(tail -n 1 <<<"$billed")" "$6"
     same "the ledger kept where $1 does $2" "$("$acceptance" --rows "$ledger${5:+.check}" 2>/dev/null | grep -c -v differs)" \
@@ -389,18 +441,18 @@ wrong_bill() {
 # One more in a ticket's squarings, and 2^64 more, beside what was quoted.
 billed_wrong() {
     local one='row == 2 && block == 1' supplied quoted rest more=18446744073709551616
-    supplied=$(squarings_of 1000 7 3) quoted=$(($(squarings_of 1000 1 0) - supplied))
-    rest="quoted in 42 tickets worked; $supplied quoted in 7 tickets of sheets"
+    supplied=$(squarings_of 1000 4 3) quoted=$(($(squarings_of 1000 1 0) - supplied))
+    rest="quoted in 21 tickets worked; $supplied quoted in 7 tickets of sheets"
     wrong_bill bbp_work "squarings[0] += $one" '' '' '' "squarings: $((quoted + 1)) made, $quoted $rest"
     wrong_bill bbp_work "squarings[8] += $one" '' '' '' "squarings: ${more%??????}$((${more: -6} + quoted)) made, $quoted $rest"
     wrong_bill bbp_work_lower "squarings[0] += $one" --halves '' '' "squarings: $((quoted + 1)) made, $quoted $rest"
     wrong_bill bbp_work_upper "squarings[0] -= $one" --halves '' '' "squarings: $((quoted - 1)) made, $quoted $rest"
     wrong_bill bbp_quote "squarings[0] += $one" '' '' '' "squarings: $quoted made, $((quoted + 1)) $rest"
-    supplied=$(check_rows squarings_of 1000 7 3) quoted=$(($(check_rows squarings_of 1000 1 0) - supplied))
-    rest="quoted in 24 tickets worked; $supplied quoted in 4 tickets of sheets"
+    supplied=$(check_rows squarings_of 1000 4 3) quoted=$(($(check_rows squarings_of 1000 1 0) - supplied))
+    rest="quoted in 12 tickets worked; $supplied quoted in 4 tickets of sheets"
     check_rows wrong_bill bbp_check_work "squarings[0] += $one" --check "$line" 'check ' \
         "check squarings: $((quoted + 1)) made, $quoted $rest"
-    "$acceptance" --keep "$ledger" 1000 7 >/dev/null 2>&1
+    "$acceptance" --keep "$ledger" 1000 4 >/dev/null 2>&1
     wrapped billed examples/acceptance.c 'static int64_t given;' \
         "$(instead bbp_work "(given = $(call bbp_work), squarings[0] += $one, given)")"
     prints 1 '' "$scratch/billed" --rows "$ledger"
@@ -410,22 +462,22 @@ billed_wrong() {
 # bar_parts - the parts that the bars of `said` show.
 bar_parts() { grep -a -o '[0-9]*%' <<<"$said"; }
 
-# On a terminal a bar shows that all is done once, at the end. The first bar is after the first ticket: at p = 17, C = 3 that has nearly all
-# squarings of its row and is one of 21 tickets.
+# On a terminal a bar shows that all is done once, at the end. The first bar is after the first ticket: at p = 17, C = 2 that has all
+# squarings of its row and is one of 14 tickets.
 bars() {
     local run options
     wrapped seen examples/acceptance.c '#include <unistd.h>' '#define isatty(file) 1'
-    for run in '1 1' '1 3' '1 256' '17 3' '1000 1' '1000 3' '1000 5'; do
+    for run in '1 1' '1 2' '1 256' '17 2' '1000 1' '1000 2' '1000 4'; do
         for options in '' --halves; do
             prints 0 "$("$acceptance" $run 2>/dev/null)" "$scratch/seen" $options $run
             same "bars of $options $run that show all" "$(bar_parts | grep -c '^100%')" 1
             same "the last bar of $options $run" "$(bar_parts | tail -n 1)" 100%
         done
     done
-    prints 0 "$("$acceptance" 17 2>/dev/null)" "$scratch/seen" 17 3
-    same "the first bar of 17 3" "$(bar_parts | head -n 1)" \
-        $((100 * $(squarings_of 17 3 0 0) / $(squarings_of 17 1 0)))%
-    "$acceptance" --keep "$ledger" 1 3 >/dev/null 2>&1
+    prints 0 "$("$acceptance" 17 2>/dev/null)" "$scratch/seen" 17 2
+    same "the first bar of 17 2" "$(bar_parts | head -n 1)" \
+        $((100 * $(squarings_of 17 2 0 0) / $(squarings_of 17 1 0)))%
+    "$acceptance" --keep "$ledger" 1 2 >/dev/null 2>&1
     prints 0 "$(lines 1 | sed -n 1p)" "$scratch/seen" --rows "$ledger" 0
     same "the bars of no squarings" "$(bar_parts)" 100%
 }
@@ -434,22 +486,22 @@ bars() {
 checked() {
     local run options digits_1=243F6A8885A308D313198A2E03707 both_1 keep="--keep $ledger" kept=$scratch/kept
     both_1="1 30 ${digits_1}3"$'\n'"check 1 29 $digits_1"$'\nagree 29 digits'
-    for run in 1 '1 1' '1 33' '1 256'; do prints 0 "$both_1" "$acceptance" --check $run; done
-    for run in 1000 '1000 1' '1000 5' '1000 256'; do prints 0 "$both" "$acceptance" --check $run; done
-    "$acceptance" --keep "$kept" 1 33 >/dev/null 2>&1
+    for run in 1 '1 1' '1 64' '1 256'; do prints 0 "$both_1" "$acceptance" --check $run; done
+    for run in 1000 '1000 1' '1000 4' '1000 256'; do prints 0 "$both" "$acceptance" --check $run; done
+    "$acceptance" --keep "$kept" 1 64 >/dev/null 2>&1
     for options in "--check $keep" "$keep --check" "--check --halves $keep" "--check $keep --halves" "--halves --check $keep" \
         "--halves $keep --check" "$keep --check --halves" "$keep --halves --check"; do
         rm -f "$ledger" "$ledger.check"
-        prints 0 "$both_1" "$acceptance" $options 1 33
+        prints 0 "$both_1" "$acceptance" $options 1 64
         same "what $options says" "$said" ""
         same "the ledger kept beside a check run" "$(cmp "$ledger" "$kept" 2>&1)" ""
         shown 'check ' "$ledger.check" 208
     done
     # Digits that only one of them settles are not compared.
     wrapped shorter examples/acceptance.c "$(instead bbp_close "$(call bbp_close) - 5")"
-    prints 0 "1000 24 ${digits%????}"$'\n'"$check_line"$'\nagree 24 digits' "$scratch/shorter" --check 1000 5
+    prints 0 "1000 24 ${digits%????}"$'\n'"$check_line"$'\nagree 24 digits' "$scratch/shorter" --check 1000 4
     wrapped shorter examples/acceptance.c "$(instead bbp_check_close "$(call bbp_check_close) > 0")"
-    prints 0 "$line"$'\ncheck 1000 1 3\nagree 1 digits' "$scratch/shorter" --check 1000 5
+    prints 0 "$line"$'\ncheck 1000 1 3\nagree 1 digits' "$scratch/shorter" --check 1000 4
 }
 
 # Both runs are opened, and both files, before the work, which would not end.
@@ -468,7 +520,7 @@ before_the_work() {
     ends 1 timeout 60 "$acceptance" --check --keep "$scratch/folder" $last
     same "what is said of a check ledger's file that cannot be written" "$said" "$scratch/folder.check: Is a directory"
     ln -s /dev/full "$scratch/full_device.check"
-    prints 1 "$line" "$acceptance" --check --keep "$scratch/full_device" 1000 5
+    prints 1 "$line" "$acceptance" --check --keep "$scratch/full_device" 1000 4
     same "what is said of its full device" "$said" "$scratch/full_device.check: No space left on device"
 }
 
@@ -476,20 +528,20 @@ before_the_work() {
 unsettled() {
     rm -f "$ledger" "$ledger.check"
     wrapped unsettled examples/acceptance.c "$(instead "$1" -9)"
-    prints 1 "$3" "$scratch/unsettled" --check --keep "$ledger" 1000 5
+    prints 1 "$3" "$scratch/unsettled" --check --keep "$ledger" 1000 4
     same "what is said of $1" "$said" "$2: refused 9: the total does not settle the first digit"
     same "the sizes of the ledgers kept" "$(stat -c %s "$ledger" "$ledger.check" 2>/dev/null | tr '\n' ' ')" "$4 "
 }
 
-# A folder with ledgers of both kinds, which an earlier run left, and those that the next run, 1000 5, is to keep.
+# A folder with ledgers of both kinds, which an earlier run left, and those that the next run, 1000 4, is to keep.
 folder=$scratch/older older=$scratch/older/ledger
 older_ledgers() {
     rm -rf "$folder"
     mkdir "$folder"
-    "$acceptance" --check --keep "$older" 1 14 >/dev/null 2>&1
+    "$acceptance" --check --keep "$older" 1 16 >/dev/null 2>&1
     cp "$older" "$scratch/earlier"
     cp "$older.check" "$scratch/earlier.check"
-    "$acceptance" --check --keep "$scratch/next" 1000 5 >/dev/null 2>&1
+    "$acceptance" --check --keep "$scratch/next" 1000 4 >/dev/null 2>&1
 }
 
 # kept_is WHAT RUN [CHECK_RUN] - both ledgers are those of the `earlier` or the `next` run, and nothing is beside them.
@@ -513,7 +565,7 @@ killed_runs() {
     same "the status of a run that is killed" $? 137
     kept_is "a run that is killed" earlier
     wrapped killed examples/acceptance.c '#include <signal.h>' '#include <stdio.h>' '#define rename(from, to) raise(SIGKILL)'
-    ends 137 bash -c '"$0" --check --keep "$1" 1000 5; exit $?' "$scratch/killed" "$older"
+    ends 137 bash -c '"$0" --check --keep "$1" 1000 4; exit $?' "$scratch/killed" "$older"
     left=$(find "$folder" -name '.kept-*')
     same "the file left by a run that is killed" "$(cmp "$left" "$scratch/next" 2>&1)" ""
     rm "$left"
@@ -535,15 +587,15 @@ failed_runs() {
     kept_is "a file that cannot be replaced" earlier
     # No file may grow, as on a full disk.
     same "what is said where no file may grow" \
-        "$( (trap '' XFSZ; ulimit -f 0; exec "$acceptance" $keep 1000 5 2>&1) | tail -n 1)" "$older: File too large"
+        "$( (trap '' XFSZ; ulimit -f 0; exec "$acceptance" $keep 1000 4 2>&1) | tail -n 1)" "$older: File too large"
     kept_is "a run where no file may grow" earlier
     ends 2 "$acceptance" $keep 1000 x
     ends 1 "$acceptance" $keep 1000 257
     kept_is "refused arguments" earlier
-    refusing examples/acceptance.c bbp_work $keep 1000 5
+    refusing examples/acceptance.c bbp_work $keep 1000 4
     kept_is "a refused call" earlier
     wrapped refusing examples/acceptance.c "$(instead bbp_check_work -7)"
-    prints 1 "$line" "$scratch/refusing" $keep 1000 5
+    prints 1 "$line" "$scratch/refusing" $keep 1000 4
     kept_is "a refused call of the check run" next earlier
 }
 
@@ -553,19 +605,19 @@ replaced_ledgers() {
     local long program
     older_ledgers
     chmod 600 "$older" "$older.check"
-    (umask 027; "$acceptance" --check --keep "$older" 1000 5 >/dev/null 2>&1)
+    (umask 027; "$acceptance" --check --keep "$older" 1000 4 >/dev/null 2>&1)
     kept_is "a run" next
     same "the permissions of the ledgers kept" "$(stat -c %a "$older" "$older.check" | tr '\n' ' ')" "640 640 "
     older_ledgers
     echo other >"$folder/.kept-7-0"
     wrapped taken examples/acceptance.c '#include <unistd.h>' '#define getpid() 7' \
         '#define write(file, bytes, len) write(file, bytes, (len) < 100 ? (len) : 100)'
-    prints 0 "$both" "$scratch/taken" --check --keep "$older" 1000 5
+    prints 0 "$both" "$scratch/taken" --check --keep "$older" 1000 4
     same "the file of another run" "$(cat "$folder/.kept-7-0")" other
     rm "$folder/.kept-7-0"
     kept_is "a run beside another" next
     long=$(printf 'x%.0s' $(seq 255)) program=$(realpath "$acceptance")
-    (cd "$folder" && "$program" --keep "$long" 1000 5 >/dev/null 2>&1)
+    (cd "$folder" && "$program" --keep "$long" 1000 4 >/dev/null 2>&1)
     same "the ledger under a long name" "$(cmp "$folder/$long" "$scratch/next" 2>&1)" ""
 }
 
@@ -576,16 +628,16 @@ links_and_devices() {
     mkdir "$links"
     ln -s ../older/ledger "$links/link"
     ln -s ../older/ledger.check "$links/link.check"
-    prints 0 "$both" "$acceptance" --check --keep "$links/link" 1000 5
+    prints 0 "$both" "$acceptance" --check --keep "$links/link" 1000 4
     kept_is "a run by links" next
     same "the links" "$(find "$links" -type l | wc -l) $(ls -A "$links" | wc -l)" "2 2"
     mkfifo "$scratch/pipe"
     cat "$scratch/pipe" >"$scratch/piped" &
-    prints 0 "$line" "$acceptance" --keep "$scratch/pipe" 1000 5
+    prints 0 "$line" "$acceptance" --keep "$scratch/pipe" 1000 4
     wait $!
     same "the ledger by a pipe" "$(cmp "$scratch/piped" "$scratch/next" 2>&1)" ""
     same "the pipe" "$(find "$scratch/pipe" -type p)" "$scratch/pipe"
-    same "the ledger and the line by one pipe" "$("$acceptance" --keep /dev/stdout 1000 5 2>/dev/null | cksum)" \
+    same "the ledger and the line by one pipe" "$("$acceptance" --keep /dev/stdout 1000 4 2>/dev/null | cksum)" \
         "$({ cat "$scratch/next"; echo "$line"; } | cksum)"
 }
 
@@ -618,15 +670,15 @@ closed_descriptors() {
     for options in '' --halves; do
         older_ledgers
         same "a run without standard error" \
-            "$("$acceptance" $options --check --keep "$older" 1000 5 2>&-; echo "status $?")" "$both"$'\nstatus 0'
+            "$("$acceptance" $options --check --keep "$older" 1000 4 2>&-; echo "status $?")" "$both"$'\nstatus 0'
         kept_is "a run without standard error" next
         older_ledgers
-        "$acceptance" $options --check --keep "$older" 1000 5 <&- >&- 2>&-
+        "$acceptance" $options --check --keep "$older" 1000 4 <&- >&- 2>&-
         same "the status of a run without standard descriptors" $? 1
         kept_is "a run without standard descriptors" next earlier
     done
-    same "a run with standard error on a full device" "$("$acceptance" 1000 5 2>/dev/full; echo "status $?")" "$line"$'\nstatus 0'
-    "$acceptance" --keep /dev/stderr 1000 5 >/dev/null 2>&-
+    same "a run with standard error on a full device" "$("$acceptance" 1000 4 2>/dev/full; echo "status $?")" "$line"$'\nstatus 0'
+    "$acceptance" --keep /dev/stderr 1000 4 >/dev/null 2>&-
     same "the status where the ledger goes to standard error, which is closed" $? 1
     "$acceptance" --rows - <&- >"$scratch/out" 2>&1
     same "the status without standard input" $? 1
@@ -639,11 +691,11 @@ unwritable_lines() {
     for wanted in 1 2 3; do
         wrapped unwritable examples/acceptance.c '#include <stdio.h>' 'static int lines;' \
             "#define fflush(file) (++lines == $wanted ? fflush(file), EOF : fflush(file))"
-        "$scratch/unwritable" --check 1000 5 >"$scratch/out" 2>/dev/null
+        "$scratch/unwritable" --check 1000 4 >"$scratch/out" 2>/dev/null
         same "the status where line $wanted cannot be written" $? 1
         same "the lines written" "$(wc -l <"$scratch/out")" $wanted
     done
-    unwritable "$acceptance" --check 1000 3
+    unwritable "$acceptance" --check 1000 2
 }
 
 # Each call that works notes its kind; one that reads or posts is refused where the last that worked was of the other.
@@ -661,8 +713,8 @@ apart() {
         done
     done
     wrapped apart examples/acceptance.c "${lines[@]}"
-    prints 0 "$both" "$scratch/apart" --check 1000 5
-    prints 0 "$both" "$scratch/apart" --check --halves 1000 5
+    prints 0 "$both" "$scratch/apart" --check 1000 4
+    prints 0 "$both" "$scratch/apart" --check --halves 1000 4
 }
 
 # differing KIND ROW STATUS OUTPUT CODE - a run at 1,000 built with that code, which spoils a sum of the row in a ledger of
@@ -673,7 +725,7 @@ differing() {
         right=$ledger.check wrong=$ledger rows_right='check_rows lines' rows_wrong=lines
     fi
     wrapped differing examples/acceptance.c "$5"
-    prints "$3" "$4" "$scratch/differing" --check --keep "$ledger" 1000 5
+    prints "$3" "$4" "$scratch/differing" --check --keep "$ledger" 1000 4
     prints 0 "$($rows_right 1000)" "$acceptance" --rows "$right"
     prints 3 "$($rows_wrong 1000 "$row" "$(sum_in "$wrong" "$row")")" "$acceptance" --rows "$wrong"
 }
@@ -741,7 +793,7 @@ refused_ledgers() {
 # The rows of a check ledger, which is known by its size.
 check_ledgers() {
     local check=$ledger.check none=00000000000000000000000000000000 run row
-    for run in '1 1' '1 33' '1 256' '1000 1' '1000 5'; do
+    for run in '1 1' '1 64' '1 256' '1000 1' '1000 4'; do
         "$acceptance" --check --keep "$ledger" $run >/dev/null 2>&1
         prints 0 "$(check_rows lines ${run% *})" "$acceptance" --rows "$check"
     done
@@ -772,7 +824,7 @@ check_ledgers() {
 # refused_calls PREFIX WORD LEDGER - each call of the kind is refused in turn, and --rows says which.
 refused_calls() {
     local call
-    for call in open quote work post; do
+    for call in quote work post; do
         refusing examples/acceptance.c "bbp_$1$call" --rows "$3"
         same "what --rows says of $2$call" "$said" "$2$call: refused 7: ticket marked already"
     done
@@ -839,6 +891,7 @@ billed_rows
 billed_wrong
 bars
 full_ledgers
+kept_ledgers
 spoiled_ledgers
 differing_runs
 check_ledgers

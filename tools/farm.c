@@ -15,7 +15,7 @@
  * in it which row differs; without that row's sheets the farm works it again.
  *
  * A sheet does not name its formula, so the files of a check run have names of
- * their own (1000-5-3-0.check.sheet): both kinds can share a directory.
+ * their own (1000-8-3-0.check.sheet): both kinds can share a directory.
  */
 #define _XOPEN_SOURCE 700
 

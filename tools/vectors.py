@@ -358,8 +358,9 @@ def ticket_cases(f, places):
     cases = [(1, 1, row, 0) for row in row_numbers(f)]
     cases += [(1, 256, row, i) for row in row_numbers(f) for i in places]
     cases += [(p, c, row, i) for p in (2, 3, 4, 17, 100) for row in row_numbers(f)
-              for c, i in ((1, 0), (3, 0), (3, 2), (255, 254), (256, 255))]
-    cases += [(p, c, row, i) for p in (1000, 12345) for row in row_numbers(f) for c, i in ((1, 0), (7, 3), (256, 255))]
+              for c, i in ((1, 0), (2, 0), (3, 0), (3, 2), (255, 254), (256, 255))]
+    cases += [(p, c, row, i) for p in (1000, 12345) for row in row_numbers(f)
+              for c, i in ((1, 0), (4, 3), (7, 3), (256, 255))]
     return cases + [(10**5, 256, row, i) for row, i in PLACES[:len(f.rows)]]
 
 
@@ -381,8 +382,9 @@ def far_tickets(f):
 def half_blocks(f):
     title(f, "Halves of blocks: {}lower-half p C i first end, {}upper-half p C i first end (end not included)")
     for p, c, i in [(1, 256, 0), (1, 256, f.one_term), (1, 256, 255), (1, 1, 0), (1, 3, 0), (1, 3, 1), (1, 3, 2), (1, 7, 6),
-                    (4, 1, 0), (4, 2, 1), (1000, 3, 1), (12345, 7, 3), (6 * 10**9, 256, 255), (f.last, 1, 0),
-                    (f.last, 2, 1), (f.last, 3, 1), (f.last, 255, 254), (f.last, 256, f.wrapping), (f.last, 256, 255)]:
+                    (4, 1, 0), (4, 2, 1), (1000, 3, 1), (1000, 4, 1), (1000, 8, 5), (1000, 16, 5), (12345, 7, 3),
+                    (6 * 10**9, 256, 255), (f.last, 1, 0), (f.last, 2, 1), (f.last, 3, 1), (f.last, 255, 254),
+                    (f.last, 256, f.wrapping), (f.last, 256, 255)]:
         for kind, half in zip(("lower-half", "upper-half"), halves(f, p, c, i)):
             range_line(f, kind, p, c, i, half)
 
