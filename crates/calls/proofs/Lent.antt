@@ -5,7 +5,8 @@ use Rattle.series.specs.Series.{Formula}
 use Rattle.run.specs.Call.{eachWas}
 use Rattle.ticket.specs.Work.{workCall, quoteCall}
 use Rattle.ledger.specs.Calls.{openCall, postCall}
-use Rattle.sheet.specs.Calls.{writeCall, readCall, sheetPostCall}
+use Rattle.sheet.specs.Calls.{writeCall, readCall}
+use Rattle.posting.specs.Calls.{sheetPostCall}
 use Rattle.look.specs.Look.{lookCall}
 use Rattle.closing.specs.Closing.{closeBy}
 use Rattle.calls.specs.Request.{Request, Work, Quote, Open, Post, WriteSheet, ReadSheet, PostSheet, Look, Close, callOf, lentToWrite}

@@ -10,7 +10,8 @@ use Rattle.run.specs.Call.{Call, Does}
 use Rattle.ticket.specs.Work.{workCall, quoteCall}
 use Rattle.ticket.specs.declared.Part.{Part}
 use Rattle.ledger.specs.Calls.{openCall, postCall}
-use Rattle.sheet.specs.Calls.{writeCall, readCall, sheetPostCall}
+use Rattle.sheet.specs.Calls.{writeCall, readCall}
+use Rattle.posting.specs.Calls.{sheetPostCall}
 use Rattle.look.specs.Look.{lookCall}
 use Rattle.closing.specs.Closing.{closeCall}
 

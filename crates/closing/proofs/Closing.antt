@@ -1,18 +1,18 @@
 -- The ways through closing: the number of the refusal for each test in order, and the digits written where none applies.
 -- Assumes nothing.
 use mathlib.Core.Path.{_≡_, refl, sym, ap, _∙_, subst}
-use mathlib.Core.Bool.{Bool, true, false, not, cond}
+use mathlib.Core.Bool.{Bool, true, false, cond, _&&_}
 use mathlib.Core.List.{List, [], _∷_, _++_}
-use Prim.Native.Nat.{ℕ, suc, _+_, _/_, _%_, _^_, _<_, _≤_}
+use Prim.Native.Nat.{ℕ, _+_, _/_, _%_, _^_, _<_, _≤_}
 use native.Mathlib.Nat.{le-of-suc-le-suc, lt-of-not-le}
 use native.Mathlib.Omega.{arith}
-use borrow.Author.Tests.{eqb-true, eqb-false, not-false, eq-eqb, ne-eqb}
+use borrow.Author.Tests.{eqb-true, eqb-false, eq-eqb, ne-eqb}
 use lib.Dec.{eqb}
 use lib.IntN.{ℤ, pos, negsuc, subℕ}
 use lib.ListN.{length, drop}
 use Rattle.algebra.specs.Test.{allBelow}
 use Rattle.algebra.specs.Whole.{quotient}
-use Rattle.algebra.proofs.Booleans.{and-left, neither}
+use Rattle.algebra.proofs.Booleans.{and-left, and-right, and-both, left-fails, right-fails}
 use Rattle.algebra.proofs.Below.{all-ext}
 use Rattle.algebra.proofs.Integers.{sub-pos}
 use Rattle.words.specs.Bytes.{field}
@@ -26,15 +26,17 @@ use Rattle.digits.specs.Digits.{unitAt, settled, lowDigits}
 use Rattle.digits.proofs.Settled.{settled-within}
 use Rattle.digits.proofs.TopDigits.{negative-none}
 use Rattle.interval.specs.Interval.{Rule, isCharged, low, high, charges}
-use Rattle.run.specs.Refusal.{_⇐_, refusal}
+use Rattle.run.specs.Refusal.{Test, _⇐_, _unless_, refusal}
 use Rattle.run.specs.Run.{Limits, limitsOf, inRange}
+use Rattle.run.specs.Tests.{ofSizes}
 use Rattle.run.proofs.Range.{Range, range-of, is-ticket}
 use Rattle.run.specs.Answers.{answerOf}
 use Rattle.run.specs.declared.Answer.{Answer}
 use Rattle.run.specs.declared.Answer.the-variants.{Finished, Refused}
 use Rattle.run.specs.declared.Refusal.{Refusal}
 use Rattle.run.proofs.Answering.{passes, skipped, refused, finished, was-finished}
-use Rattle.run.specs.Call.{answered, refusedBy, Does}
+use Rattle.run.specs.Call.{Call, answered, refusedBy, Does}
+use Rattle.run.proofs.Testing.{Left, here, past, passed}
 use Rattle.run.proofs.Calls.{works, turned-down}
 use Rattle.ledger.specs.Ledger.{View, viewOf, ledgerSize, posIn, blocksIn, totalIn, bitIn, markIn, inOrder}
 use Rattle.closing.specs.Closing.{Ordered, lowOf, highOf, settledAt, digitsAt, closeBy, closeCall}
@@ -61,64 +63,58 @@ bits-are-marks lim s =
 
 -- ---- the refusals, in order
 
+-- ---- the tests in their order
+
+last-test : (c : Bool) → refusal ((9 ⇐ c) ∷ []) ≡ cond c 9 0
+unfolding refusal
+last-test c = refl
+
 module _ (F : Formula) (s out : List ℕ) where
-  abbrev number : ℕ
-  number = refusedBy (closeCall F s out)
+  abbrev this : Call
+  this = closeCall F s out
 
-  by-number : (n : ℕ) → number ≡ suc n → negsuc n ≡ answered (closeCall F s out)
-  unfolding closeBy answered
-  by-number n e = refused number n _ e
+  abbrev full : Bool
+  full = allBelow (rowCount F) (λ row. allBelow (blocksIn s) (λ block. bitIn (limitsOf F) s row block))
 
-  pub ledger-size : (length s ≡ ledgerSize (limitsOf F) → ⊥) → negsuc 0 ≡ answered (closeCall F s out)
-  unfolding closeBy refusedBy refusal viewOf
-  ledger-size h = by-number 0 (rw (ne-eqb (length s) (ledgerSize (limitsOf F)) h) refl)
+  abbrev d : ℕ
+  d = settledAt isCharged F (posIn s) (totalIn (limitsOf F) s)
 
-  module _ (sized : length s ≡ ledgerSize (limitsOf F)) where
-    pub digits-size : (length out ≡ 32 → ⊥) → negsuc 0 ≡ answered (closeCall F s out)
-    unfolding closeBy refusedBy refusal viewOf
-    digits-size h = by-number 0 (rw (eq-eqb (length s) (ledgerSize (limitsOf F)) sized, ne-eqb (length out) 32 h) refl)
+  -- the last two tests
+  abbrev ofRun : List Test
+  ofRun = (8 unless full) ∷ (9 ⇐ eqb d 0) ∷ []
 
-    module _ (room : length out ≡ 32) where
-      pub out-of-order : inOrder (limitsOf F) s ≡ false → negsuc 4 ≡ answered (closeCall F s out)
-      unfolding closeBy refusedBy refusal viewOf
-      out-of-order h = by-number 4 (rw (eq-eqb (length s) (ledgerSize (limitsOf F)) sized, eq-eqb (length out) 32 room, h) refl)
+  all-tests : Left this (ofSizes (eqb (length s) (ledgerSize (limitsOf F)) && eqb (length out) 32) ++ (5 unless inOrder (limitsOf F) s) ∷ ofRun)
+  unfolding closeBy refusedBy viewOf
+  all-tests = record { decide = rw (← bits-are-marks (limitsOf F) s) refl }
 
-      module _ (order : inOrder (limitsOf F) s ≡ true) where
-        abbrev full : Bool
-        full = allBelow (rowCount F) (λ row. allBelow (blocksIn s) (λ block. bitIn (limitsOf F) s row block))
+  pub ledger-size : (length s ≡ ledgerSize (limitsOf F) → ⊥) → negsuc 0 ≡ answered this
+  ledger-size h = here all-tests (left-fails _ _ (ne-eqb _ _ h))
 
-        pub unmarked : full ≡ false → negsuc 7 ≡ answered (closeCall F s out)
-        unfolding closeBy refusedBy refusal viewOf
-        unmarked h =
-            by-number 7
-            (rw (eq-eqb (length s) (ledgerSize (limitsOf F)) sized, eq-eqb (length out) 32 room, order, ← bits-are-marks (limitsOf F) s, h) refl)
+  pub digits-size : (length out ≡ 32 → ⊥) → negsuc 0 ≡ answered this
+  digits-size h = here all-tests (right-fails (eqb (length s) (ledgerSize (limitsOf F))) _ (ne-eqb _ _ h))
 
-        pub unsettled : full ≡ true → settledAt isCharged F (posIn s) (totalIn (limitsOf F) s) ≡ 0 → negsuc 8 ≡ answered (closeCall F s out)
-        unfolding closeBy refusedBy refusal viewOf
-        unsettled h d =
-            by-number 8
-            (rw (
-              eq-eqb (length s) (ledgerSize (limitsOf F)) sized,
-              eq-eqb (length out) 32 room,
-              order,
-              ← bits-are-marks (limitsOf F) s,
-              h,
-              d,
-            ) refl)
+  module _ (sized : length s ≡ ledgerSize (limitsOf F)) (room : length out ≡ 32) where
+    from-order : Left this ((5 unless inOrder (limitsOf F) s) ∷ ofRun)
+    from-order = past all-tests (and-both (eqb (length s) (ledgerSize (limitsOf F))) _ (eq-eqb _ _ sized) (eq-eqb _ _ room))
 
-        pub closes : full ≡ true → (settledAt isCharged F (posIn s) (totalIn (limitsOf F) s) ≡ 0 → ⊥)
-            → pos (settledAt isCharged F (posIn s) (totalIn (limitsOf F) s)) ≡ answered (closeCall F s out)
-        unfolding closeBy answered refusedBy refusal viewOf
-        closes h d =
-            finished number _
-            (rw (
-              eq-eqb (length s) (ledgerSize (limitsOf F)) sized,
-              eq-eqb (length out) 32 room,
-              order,
-              ← bits-are-marks (limitsOf F) s,
-              h,
-              ne-eqb (settledAt isCharged F (posIn s) (totalIn (limitsOf F) s)) 0 d,
-            ) refl)
+    pub out-of-order : inOrder (limitsOf F) s ≡ false → negsuc 4 ≡ answered this
+    out-of-order h = here from-order h
+
+    module _ (order : inOrder (limitsOf F) s ≡ true) where
+      pub unmarked : full ≡ false → negsuc 7 ≡ answered this
+      unmarked h = here (past from-order order) h
+
+      module _ (h : full ≡ true) where
+        last : refusedBy this ≡ cond (eqb d 0) 9 0
+        last = past (past from-order order) h .decide ∙ last-test (eqb d 0)
+
+        pub unsettled : d ≡ 0 → negsuc 8 ≡ answered this
+        unfolding answered
+        unsettled z = refused (refusedBy this) 8 _ (last ∙ rw z refl)
+
+        pub closes : (d ≡ 0 → ⊥) → pos d ≡ answered this
+        unfolding closeBy answered viewOf
+        closes n = finished (refusedBy this) _ (last ∙ rw (ne-eqb d 0 n) refl)
 
 -- ---- the lower end, where a digit is settled
 
@@ -181,22 +177,18 @@ pub record Tested (F : Formula) (s out : List ℕ) : Type 0 where
 pub tested : (F : Formula) (s out : List ℕ) → refusedBy (closeCall F s out) ≡ 0 → Tested F s out
 unfolding closeBy refusedBy viewOf
 tested F s out e =
-    let e₁ = passes 0 _ _ e in
-    let e₅ = passes 4 _ _ (e₁ .1) in
+    let e₁ = passed 0 _ _ e in
+    let e₅ = passed 4 _ _ (e₁ .1) in
     let e₈ = passes 7 _ _ (e₅ .1) in
     let e₉ = passes 8 _ _ (e₈ .1) in
-    let sizes = neither (not (eqb (length s) (ledgerSize (limitsOf F)))) (not (eqb (length out) 32)) (e₁ .0) in
+    let sized = eqb (length s) (ledgerSize (limitsOf F)) in
     record {
-      ordered = record { sized = eqb-true _ _ (not-false _ (sizes .0)); ordered = not-false _ (e₅ .0) };
-      room = eqb-true _ _ (not-false _ (sizes .1));
+      ordered = record { sized = eqb-true _ _ (and-left sized _ (e₁ .0)); ordered = e₅ .0 };
+      room = eqb-true _ _ (and-right sized _ (e₁ .0));
       some = eqb-false (settledAt isCharged F (posIn s) (totalIn (limitsOf F) s)) 0 (e₉ .0);
     }
 
 -- where a ledger is not refused, another total or another rule can bring 9 alone
-last-test : (c : Bool) → refusal ((9 ⇐ c) ∷ []) ≡ cond c 9 0
-unfolding refusal
-last-test c = refl
-
 pub nine-alone : (R S : Rule) (F : Formula) (v : View) (total other : ℕ) (out : List ℕ) → refusedBy (closeBy R F v total out) ≡ 0
     → refusedBy (closeBy S F v other out) ≡ cond (eqb (settledAt S F (v .p) other) 0) 9 0
 unfolding closeBy refusedBy

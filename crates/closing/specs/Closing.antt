@@ -1,7 +1,7 @@
 -- Closing a ledger: the refusals, the answer, and what the call leaves in the 32 bytes lent for the digits. Document 01, "Closing";
 -- document 02, slips 1 and 5.
 use mathlib.Core.Path.{_≡_, refl}
-use mathlib.Core.Bool.{true, not, _||_}
+use mathlib.Core.Bool.{true, _&&_}
 use mathlib.Core.List.{List, [], _∷_, _++_}
 use Prim.Native.Nat.{ℕ}
 use lib.Dec.{eqb}
@@ -12,10 +12,12 @@ use Rattle.algebra.specs.Test.{allBelow}
 use Rattle.series.specs.Series.{Formula, rowCount, termCount}
 use Rattle.digits.specs.Digits.{unitAt, settled, lowDigits}
 use Rattle.interval.specs.Interval.{Rule, isCharged, low, high}
-use Rattle.run.specs.Refusal.{_⇐_}
+use Rattle.run.specs.Refusal.{_⇐_, _unless_}
 use Rattle.run.specs.Call.{Call, slice}
 use Rattle.run.specs.Run.{Limits, limitsOf}
+use Rattle.run.specs.Tests.{ofSizes}
 use Rattle.ledger.specs.Ledger.{View, viewOf, totalIn, inOrder, ledgerSize}
+use Rattle.ledger.specs.Calls.{ofOrder}
 
 -- ---- by a rule of charging: low and high of a run at position p with a total
 
@@ -40,9 +42,8 @@ closeBy R F v total digits =
     let d = settledAt R F (v .p) total in
     record {
       tests =
-          (1 ⇐ not (v .sized) || not (eqb (length digits) 32)) ∷ (5 ⇐ not (v .ordered))
-          ∷ (8 ⇐ not (allBelow (rowCount F) (λ row. allBelow (v .C) (λ block. v .marked row block))))
-          ∷ (9 ⇐ eqb d 0) ∷ [];
+          ofSizes (v .sized && eqb (length digits) 32) ++ ofOrder v
+          ++ (8 unless allBelow (rowCount F) (λ row. allBelow (v .C) (λ block. v .marked row block))) ∷ (9 ⇐ eqb d 0) ∷ [];
       in-order = refl;
       value = d;
       slices = slice digits (digitsAt R F (v .p) total d ++ drop d digits) ∷ [];

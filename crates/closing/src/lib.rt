@@ -3,19 +3,16 @@ pub mod charges;
 
 ghost use mathlib.Core.Path.{_≡_};
 ghost use mathlib.Core.List.{[], _∷_};
-ghost use Prim.Native.Nat.{_+_, _^_, _<_, _≤_};
+ghost use Prim.Native.Nat.{_+_, _^_, _<_};
 ghost use lib.IntN.{pos, subℕ};
-ghost use lib.ListN.{length};
-ghost use Rattle.algebra.specs.Test.{allBelow};
 ghost use Rattle.words.specs.Words.{joined};
 ghost use Rattle.series.specs.Names.{formulaOf};
-ghost use Rattle.series.specs.Series.{rowCount};
 ghost use Rattle.digits.specs.Digits.{settled};
 ghost use Rattle.interval.specs.Interval.{isCharged};
 ghost use Rattle.run.specs.Run.{limitsOf};
 ghost use Rattle.run.specs.Answers.{answerOf};
 ghost use Rattle.run.specs.Call.{Does, answered};
-ghost use Rattle.ledger.specs.Ledger.{ledgerSize, posIn, totalIn, bitIn};
+ghost use Rattle.ledger.specs.Ledger.{posIn, totalIn};
 ghost use Rattle.closing.specs.Closing.{Ordered, lowOf, settledAt, closeCall};
 use run::Answer;
 use run::Refusal;
@@ -39,37 +36,6 @@ pub fn settled_digits(total: Wide, a: u64, b: u64) -> u64
     digits::shared_digits(words::sub(total, below), high)
 }
 
-// Whether the first c blocks of a row are all marked.
-pub fn row_full(f: Series, s: &[u8], row: usize, c: usize) -> bool
-    requires { ⌜ (length (now s) ≡ ledgerSize (limitsOf (formulaOf f))) × (row < rowCount (formulaOf f)) × (c ≤ 256) ⌝ }
-    ensures { λ r. ⌜ r ≡ allBelow c (λ block. bitIn (limitsOf (formulaOf f)) (now (s .entry)) row block) ⌝ }
-{
-    let mut block = 0;
-    while block < c {
-        if !ledger::bit_set(f, s, row, block) {
-            return false;
-        }
-        block += 1;
-    }
-    true
-}
-
-// Whether the first c blocks of every row are marked.
-pub fn rows_full(f: Series, s: &[u8], c: usize) -> bool
-    requires { ⌜ (length (now s) ≡ ledgerSize (limitsOf (formulaOf f))) × (c ≤ 256) ⌝ }
-    ensures { λ r. ⌜ r ≡ allBelow (rowCount (formulaOf f)) (λ row. allBelow c (λ block. bitIn (limitsOf (formulaOf f)) (now (s .entry)) row block)) ⌝ }
-{
-    let rows = series::formula::row_count(f);
-    let mut row = 0;
-    while row < rows {
-        if !row_full(f, s, row, c) {
-            return false;
-        }
-        row += 1;
-    }
-    true
-}
-
 // The total of a ledger: the sums of all its rows, added up.
 pub fn total(f: Series, ledger: &[u8]) -> Wide
     requires { ⌜ Ordered (limitsOf (formulaOf f)) (now ledger) ⌝ }
@@ -81,7 +47,9 @@ pub fn total(f: Series, ledger: &[u8]) -> Wide
 // The number of digits that a ledger's total settles.
 pub fn settle(f: Series, ledger: &[u8]) -> u64
     requires { ⌜ Ordered (limitsOf (formulaOf f)) (now ledger) ⌝ }
-    ensures { λ r. ⌜ r ≡ settledAt isCharged (formulaOf f) (posIn (now (ledger .entry))) (totalIn (limitsOf (formulaOf f)) (now (ledger .entry))) ⌝ }
+    ensures { λ r. ⌜
+        r ≡ settledAt isCharged (formulaOf f) (posIn (now (ledger .entry))) (totalIn (limitsOf (formulaOf f)) (now (ledger .entry)))
+        ⌝ }
 {
     let p = words::get(ledger, 0, 8);
     let a = charges::in_run(f, true, p);
@@ -91,8 +59,14 @@ pub fn settle(f: Series, ledger: &[u8]) -> u64
 
 // The lower end of the interval around a ledger's total, where a digit is settled, so that it is not below 0.
 pub fn lower_end(f: Series, ledger: &[u8]) -> Wide
-    requires { ⌜ Ordered (limitsOf (formulaOf f)) (now ledger) × (settledAt isCharged (formulaOf f) (posIn (now ledger)) (totalIn (limitsOf (formulaOf f)) (now ledger)) ≡ 0 → ⊥) ⌝ }
-    ensures { λ r. ⌜ lowOf isCharged (formulaOf f) (posIn (now (ledger .entry))) (totalIn (limitsOf (formulaOf f)) (now (ledger .entry))) ≡ pos (joined (r .hi) (r .lo)) ⌝ }
+    requires { ⌜
+        Ordered (limitsOf (formulaOf f)) (now ledger)
+        × (settledAt isCharged (formulaOf f) (posIn (now ledger)) (totalIn (limitsOf (formulaOf f)) (now ledger)) ≡ 0 → ⊥)
+        ⌝ }
+    ensures { λ r. ⌜
+        lowOf isCharged (formulaOf f) (posIn (now (ledger .entry))) (totalIn (limitsOf (formulaOf f)) (now (ledger .entry)))
+        ≡ pos (joined (r .hi) (r .lo))
+        ⌝ }
 {
     let b = charges::in_run(f, false, words::get(ledger, 0, 8));
     words::sub(total(f, ledger), Wide { hi: 0, lo: b + 1 })
@@ -112,7 +86,7 @@ pub fn test_closing(f: Series, ledger: &[u8], digits: &[u8]) -> Answer
         return Answer::Refused(Refusal::OutOfOrder);
     }
     let c = words::get(ledger, 8, 2);
-    if !rows_full(f, ledger, c as usize) {
+    if !ledger::marks::all_below(f, ledger, c as usize) {
         return Answer::Refused(Refusal::Unmarked);
     }
     let d = settle(f, ledger);

@@ -52,14 +52,14 @@ pub extern "C" fn bbp_check_post(
 pub extern "C" fn bbp_sheet_post(ledger: &mut [u8], sheet: &[u8]) -> i64
     ensures { λ r. ⌜ Serves bellard (PostSheet (now (ledger .entry)) (now (sheet .entry))) r (now (ledger .exit) ∷ []) (now (sheet .exit) ∷ []) ⌝ }
 {
-    to_c(sheet::posting::post(Series::Bellard, ledger, sheet))
+    to_c(posting::post(Series::Bellard, ledger, sheet))
 }
 
 #[no_mangle]
 pub extern "C" fn bbp_check_sheet_post(ledger: &mut [u8], sheet: &[u8]) -> i64
     ensures { λ r. ⌜ Serves check (PostSheet (now (ledger .entry)) (now (sheet .entry))) r (now (ledger .exit) ∷ []) (now (sheet .exit) ∷ []) ⌝ }
 {
-    to_c(sheet::posting::post(Series::Check, ledger, sheet))
+    to_c(posting::post(Series::Check, ledger, sheet))
 }
 
 // For Bellard's runs alone.

@@ -33,9 +33,11 @@ module _ (lim : Limits) (s : List ℕ) (first : ℕ) where
       → n + boolByte b ≡ rowMarks lim s first (block + 1 - first) row
   unfolding rowMarks
   one-block row block n b h e q =
+      let f : ℕ → ℕ = λ i. cond (bitIn lim s row i) 1 0 in
       let here : first + (block - first) ≡ block = omega arith in
       let more : block + 1 - first ≡ block - first + 1 = omega arith in
-      ap₂ _+_ e (byte-is b ∙ ap (λ (c : Bool). cond c 1 0) (q ∙ ap (bitIn lim s row) (sym here))) ∙ sym (ap (sum _ first) more ∙ sum-next _ first (block - first))
+      let set : boolByte b ≡ f (first + (block - first)) = byte-is b ∙ ap (λ (c : Bool). cond c 1 0) q ∙ ap f (sym here) in
+      ap₂ _+_ e set ∙ sym (ap (sum f first) more ∙ sum-next f first (block - first))
     where
       byte-is : (b : Bool) → boolByte b ≡ cond b 1 0
       byte-is true = refl

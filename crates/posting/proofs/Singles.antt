@@ -16,7 +16,7 @@ use Rattle.run.specs.Refusal.{refusal, answer}
 use Rattle.run.specs.Run.{Entry, Limits, isTicket}
 use Rattle.run.proofs.Answering as answering
 use Rattle.run.specs.Call.{answered, refusedBy, bytesLeft}
-use Rattle.sheet.specs.Sheet.{sheetPos, sheetCount, sheetBlocks, sumIn, entriesFrom, entries}
+use Rattle.sheet.specs.Sheet.{sheetCount, sheetBlocks, sumIn, entriesFrom, entries}
 use Rattle.ledger.specs.Ledger.{View, viewOf, ledgerSize}
 use Rattle.ledger.specs.Plain.{Plain, plainView, admit, encode, decode}
 use Rattle.ledger.specs.Calls.{postTests}

@@ -22,13 +22,13 @@ use Rattle.run.proofs.Range.{range-of, ticket-row, ticket-block, is-ticket}
 use Rattle.run.specs.Call.{Call, answered, refusedBy, Does}
 use Rattle.run.proofs.Testing.{Left, here, past, none-left, part-here, part-past, part-passes, passed}
 use Rattle.run.proofs.Calls.{finishes, was-worked, turned-down}
-use Rattle.sheet.specs.Sheet.{sheetPos, sheetBlocks, sheetCount, entriesFrom, entries, every, allTickets, wellFormed}
+use Rattle.sheet.specs.Sheet.{sheetPos, sheetBlocks, sheetCount, entriesFrom, entries, every, allTickets}
 use Rattle.sheet.specs.Tests.{sheetSized, ofSheet}
-use Rattle.sheet.proofs.Form.{formed, formed-length, sheet-fits, SheetPassed, sheet-passed}
+use Rattle.sheet.proofs.Form.{formed, formed-length, SheetPassed, sheet-passed}
 use Rattle.ledger.specs.Ledger.{View, viewOf, ledgerSize, blocksIn, markIn}
 use Rattle.ledger.specs.Calls.{ofLedger, ofMarks}
 use Rattle.ledger.proofs.Posting.{mark-is-bit, ledger-passed}
-use Rattle.posting.specs.Calls.{ofPosting, sheetTests, enterEntry, sheetPostCall, unset, AllEnterable}
+use Rattle.posting.specs.Calls.{sheetTests, enterEntry, sheetPostCall, unset, AllEnterable}
 
 -- ---- what it means that the tests are passed, whatever the ledger is seen by
 

@@ -21,9 +21,9 @@ use Rattle.run.proofs.Calls.{leaves, finishes}
 use Rattle.ticket.specs.Work.{isSized, bothSized, workCall}
 use Rattle.ticket.specs.declared.Part.the-variants.{Whole}
 use Rattle.ticket.proofs.Parts.{whole-sum}
-use Rattle.sheet.specs.RoundTrip.{Fits}
-use Rattle.sheet.proofs.RoundTrip.{written-reads-back, accepted-is-written}
 use Rattle.settlement.specs.Agreement.{sideOf, Worked, Demand2}
+use Rattle.settlement.specs.RoundTrip.{Fits}
+use Rattle.settlement.proofs.RoundTrip.{written-reads-back, accepted-is-written}
 
 -- the residue of a difference, with what was taken away put back
 residue-back : (m a b : ℕ) → 0 < m → (residue m (subℕ a b) + b) % m ≡ a % m

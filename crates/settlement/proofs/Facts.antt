@@ -10,9 +10,10 @@ use Rattle.run.specs.Refusal.{Test, _⇐_}
 use Rattle.run.specs.Run.{limitsOf}
 use Rattle.run.proofs.Smallest.{here, later}
 use Rattle.run.proofs.Calls.{by-smallest}
-use Rattle.sheet.specs.Calls.{writeCall, readCall, sheetPostCall}
+use Rattle.sheet.specs.Calls.{writeCall, readCall}
 use Rattle.sheet.proofs.Many.{many-refused, many-listed}
-use Rattle.sheet.proofs.Singles.{sheet-as-singles}
+use Rattle.posting.specs.Calls.{sheetPostCall}
+use Rattle.posting.proofs.Singles.{sheet-as-singles}
 use Rattle.look.specs.Look.{lookCall}
 use Rattle.calls.specs.Request.{callOf}
 use Rattle.settlement.proofs.Halves.{halves-make-whole}

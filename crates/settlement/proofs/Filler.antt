@@ -12,10 +12,10 @@ use Rattle.algebra.proofs.Booleans.{below-or}
 use Rattle.words.specs.Bytes.{bytesOf, valueOf}
 use Rattle.words.proofs.Bytes.{length-bytes, value-bytes}
 use Rattle.series.specs.Series.{Formula, rowCount, modulus}
-use Rattle.run.specs.Run.{limitsOf, ticketSum}
+use Rattle.run.specs.Run.{limitsOf, ticketSum, Entry}
 use Rattle.run.proofs.Range.{ticket-row, ticket-block}
-use Rattle.ledger.specs.Plain.{Plain, Entry, plainView, admit, isOf, opened}
-use Rattle.sheet.specs.Posts.{Post, ticket, postRefusal, postEntries, plainPost, occurring, occurrences, contains, singles}
+use Rattle.ledger.specs.Plain.{Plain, plainView, admit, isOf, opened}
+use Rattle.posting.specs.Posts.{Post, ticket, postRefusal, postEntries, plainPost, occurring, occurrences, contains, singles}
 use Rattle.settlement.specs.Settlement.{Filled}
 use Rattle.settlement.proofs.Agreement.{ticket-sum-lt}
 

@@ -14,17 +14,18 @@ use lib.ListN.{length}
 use Rattle.algebra.specs.Sum.{sum}
 use Rattle.algebra.proofs.Sums.{sum-ext, sum-zero, sum-bump, sum-rem}
 use Rattle.series.specs.Series.{Formula, rowCount, modulus}
-use Rattle.run.specs.Run.{limitsOf, inRange, isTicket, ticketSum}
+use Rattle.run.specs.Run.{limitsOf, inRange, isTicket, ticketSum, Entry}
 use Rattle.run.proofs.Range.{ticket-block, is-ticket}
 use Rattle.ledger.specs.Ledger.{totalOf}
-use Rattle.ledger.specs.Plain.{Plain, Entry, plainView, admit, including, adding, isOf, opened}
+use Rattle.ledger.specs.Plain.{Plain, plainView, admit, including, adding, isOf, opened}
 use Rattle.ledger.proofs.Posting.{ticket-taken}
 use Rattle.ledger.proofs.RowSums.{adding-here, adding-else}
 use Rattle.ledger.proofs.Image.{Good, including-here, including-else}
 use Rattle.sheet.specs.Sheet.{entries}
-use Rattle.sheet.specs.Posts.{Post, ticket, sheet, postRefusal, postEntries, plainPost, plainPosts, occurring, occurrences, contains}
-use Rattle.sheet.proofs.Simulation.{Ready, good-admit, good-opened, post-ready, step}
-use Rattle.sheet.proofs.Singles.{not-refused}
+use Rattle.sheet.specs.Posts.{plainPosts}
+use Rattle.sheet.proofs.Writable.{not-refused}
+use Rattle.posting.specs.Posts.{Post, ticket, sheet, postRefusal, postEntries, plainPost, occurring, occurrences, contains}
+use Rattle.posting.proofs.Simulation.{Ready, good-admit, good-opened, post-ready, step}
 use Rattle.settlement.specs.Settlement.{Filled, rowSums, allSums, finalSums, finalTotal}
 
 module _ (F : Formula) (p C : ℕ) where

@@ -23,13 +23,15 @@ use Rattle.ledger.specs.Ledger.{View, totalOf, totalIn, fresh}
 use Rattle.ledger.specs.Plain.{Plain, plainView, encode, opened, admit, including, adding}
 use Rattle.ledger.proofs.Image.{Good, view-encode, total-encode, fresh-encode}
 use Rattle.sheet.specs.Sheet.{sheetPos, sheetBlocks, sheetCount, rowIn, blockIn, sumIn, entriesFrom, entries, every, ascending, wellFormed, contentsOf, bodiesOf, sheetOf}
-use Rattle.sheet.specs.Calls.{sheetRefusal, sheetPostCall}
-use Rattle.sheet.specs.Posts.{sheet, postRefusal, postEntries, postBytes, plainAnswer, plainPost, postsBytes}
-use Rattle.sheet.proofs.Simulation.{good-opened, step, post-answers}
+use Rattle.sheet.specs.Calls.{sheetRefusal}
+use Rattle.sheet.specs.Posts.{postsBytes}
+use Rattle.posting.specs.Calls.{sheetPostCall}
+use Rattle.posting.specs.Posts.{sheet, postRefusal, postEntries, postBytes, plainAnswer, plainPost}
+use Rattle.posting.proofs.Simulation.{good-opened, step, post-answers}
 use Rattle.look.specs.Look.{unmarkedOf, unmarkedIn, lookRefusal, lookCall}
-use Rattle.look.proofs.Counting.{all-less-marks, none-left}
 use Rattle.look.proofs.Posted.{all-in, leaves}
 use Rattle.look.proofs.AsPosting.{looks-as-posted}
+use Rattle.look.proofs.Unmarked.{all-less-marks, none-left}
 use Rattle.closing.specs.Closing.{settledAt, closeBy, closeCall}
 use Rattle.closing.proofs.Encoded.{answer-encoded}
 use Rattle.settlement.specs.Looks.{Step, posting, looking, Outcome, outcome, stepOutcome, stepBytes, plainOutcome, plainStep, stepsBytes, outcomes, plainOutcomes, postsAmong, Looks, someSteps, LooksTaken}

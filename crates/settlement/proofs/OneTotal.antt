@@ -12,15 +12,17 @@ use Rattle.algebra.proofs.Sums.{sum-zero}
 use Rattle.series.specs.Series.{Formula, modulus}
 use Rattle.interval.specs.Interval.{isCharged}
 use Rattle.run.specs.Refusal.{answer}
-use Rattle.run.specs.Run.{Limits, limitsOf, inRange}
+use Rattle.run.specs.Run.{Limits, limitsOf, inRange, Entry}
 use Rattle.run.proofs.Range.{ticket-row}
 use Rattle.run.specs.Call.{answered, bytesLeft}
 use Rattle.ledger.specs.Ledger.{View, viewOf, ledgerSize, totalOf, totalIn}
-use Rattle.ledger.specs.Plain.{Plain, Entry, plainView, opened, admit, including}
+use Rattle.ledger.specs.Plain.{Plain, plainView, opened, admit, including}
 use Rattle.ledger.proofs.RowSums.{total-adding}
 use Rattle.ledger.proofs.Image.{total-encode}
-use Rattle.sheet.specs.Posts.{Post, postRefusal, postEntries, plainPost, plainPosts, plainAnswer, plainAnswers}
-use Rattle.sheet.proofs.Simulation.{Ready, good-opened, posts-good, post-ready, ledger-is, answers-are}
+use Rattle.sheet.specs.Posts.{plainPosts, plainAnswers}
+use Rattle.sheet.proofs.Simulation.{posts-good, ledger-is, answers-are}
+use Rattle.posting.specs.Posts.{Post, postRefusal, postEntries, plainPost, plainAnswer}
+use Rattle.posting.proofs.Simulation.{Ready, good-opened, post-ready}
 use Rattle.closing.specs.Closing.{closeBy, closeCall}
 use Rattle.closing.proofs.Encoded.{answer-encoded, bytes-encoded}
 use Rattle.settlement.specs.OneTotal.{OneTotal, oneOpened, oneView, oneAdmit, onePost, onePosts, oneAnswers, oneCloseAnswer, oneCloseBytes, SameAsOne, SameTotal, AsBefore}

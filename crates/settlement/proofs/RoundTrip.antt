@@ -1,37 +1,36 @@
 -- What the writer writes, the reader takes and gives back; and an accepted sheet with right sums is what the writer writes.
 -- Assumes nothing.
 use mathlib.Core.Path.{_≡_, refl, sym, ap, ap₂, _∙_, subst}
-use mathlib.Core.Bool.{Bool, true, false, _&&_, _||_}
-use mathlib.Core.List.{List, [], _∷_, _++_, List·Memᴰ, List·Memᴰ·head, List·Memᴰ·tail, List·Memᴰ·not-nil}
-use Prim.Native.Nat.{ℕ, zero, suc, _+_, _*_, _/_, _%_, _^_, _<_, _≤_}
-use native.Mathlib.Nat.{le-refl, not-suc-le-zero, mod-eq-of-lt}
+use mathlib.Core.Bool.{Bool, true, _&&_, _||_}
+use mathlib.Core.List.{List, List·Memᴰ}
+use Prim.Native.Nat.{ℕ, _+_, _*_, _/_, _^_, _<_, _≤_}
+use native.Mathlib.Nat.{le-refl}
 use native.Mathlib.Omega.{arith}
-use borrow.Author.Tests.{ltb-false, eqb-true, eqb-false, le-ltb, eq-eqb, ne-eqb, not-false}
+use borrow.Author.Tests.{ltb-false, eqb-true, le-ltb, not-false}
 use lib.Dec.{ltb, eqb}
 use lib.IntN.{pos}
-use lib.ListN.{length, getD, take, drop, replicate, length-append, length-replicate}
-use lib.Pow.{pow-pos}
-use lib.Seq.{getD-drop, take-at, drop-at}
+use lib.ListN.{length, getD, take, drop, replicate, length-replicate}
+use lib.Seq.{take-at, drop-at}
 use Rattle.algebra.specs.Test.{allBelow}
 use Rattle.algebra.proofs.Booleans.{and-left, and-right, neither}
-use Rattle.algebra.proofs.Below.{all-true, all-at}
-use Rattle.algebra.proofs.Integers.{residue-lt}
-use Rattle.words.specs.Bytes.{bytesOf, valueOf, field, AllBytes}
-use Rattle.series.specs.Series.{Formula, rowCount, modulus, rangeSum}
+use Rattle.algebra.proofs.Below.{all-at}
+use Rattle.words.specs.Bytes.{field, AllBytes}
+use Rattle.series.specs.Series.{Formula}
 use Rattle.run.specs.Refusal.{refusal, answer}
-use Rattle.run.specs.Run.{Limits, limitsOf, inRange, isTicket, ticketSum}
+use Rattle.run.specs.Run.{Limits, limitsOf, inRange, ticketSum, Entry}
 use Rattle.run.proofs.Answering as answering
 use Rattle.run.proofs.Answering.{passes}
-use Rattle.run.proofs.Range.{range-of, ticket-row, ticket-block}
+use Rattle.run.proofs.Range.{range-of}
 use Rattle.run.specs.Call.{answered, bytesLeft, refusedBy, allLeft}
 use Rattle.ledger.specs.Ledger.{View, viewOf}
-use Rattle.ledger.specs.Plain.{Entry}
-use Rattle.sheet.specs.Sheet.{sheetLength, sheetMost, listMost, sheetPos, sheetBlocks, sheetCount, entries, every, allTickets, key, ascending, wellFormed, contentsOf, bodiesOf, sheetOf, listOf, listed}
-use Rattle.sheet.specs.Calls.{over, sheetRefusal, sheetPostCall, readCall, writeCall}
-use Rattle.sheet.specs.RoundTrip.{Fits, ReadsBack, WrittenReadsBack, Accepted, by-reading, by-posting, RightSums, AcceptedIsWritten}
-use Rattle.sheet.proofs.Simulation.{formed, sheet-taken}
+use Rattle.sheet.specs.Sheet.{sheetLength, sheetMost, sheetPos, sheetBlocks, sheetCount, entries, allTickets, ascending, wellFormed, sheetOf, listOf, listed}
+use Rattle.sheet.specs.Calls.{over, sheetRefusal, readCall, writeCall}
 use Rattle.sheet.proofs.Many.{count-entries, count-listed}
-use Rattle.sheet.proofs.Sheets.{Fitting, pos-read, blocks-read, count-read, entries-read, sheet-again, length-contents}
+use Rattle.sheet.proofs.Sheets.{Fitting, pos-read, blocks-read, count-read, entries-read, sheet-again}
+use Rattle.sheet.proofs.Form.{formed}
+use Rattle.posting.specs.Calls.{sheetPostCall}
+use Rattle.posting.proofs.Testing.{sheet-taken}
+use Rattle.settlement.specs.RoundTrip.{Fits, ReadsBack, WrittenReadsBack, Accepted, by-reading, by-posting, RightSums, AcceptedIsWritten}
 
 -- ---- written, then read
 

@@ -7,8 +7,8 @@ use Rattle.series.specs.declared.Series.the-variants.{Bellard, Check}
 use Rattle.series.proofs.FewRows.{few-rows, near-positions}
 use Rattle.interval.proofs.Denominator.{whole-exists}
 use Rattle.interval.proofs.Premises.{positive, rest}
-use Rattle.sheet.specs.RoundTrip.{Fits}
 use Rattle.settlement.specs.Runs.{Asked, EveryFormula, Runs}
+use Rattle.settlement.specs.RoundTrip.{Fits}
 use Rattle.settlement.proofs.Refused.{demand1}
 use Rattle.settlement.proofs.Agreement.{demand2}
 use Rattle.settlement.proofs.Theorem.{demand3}

@@ -27,8 +27,10 @@ use Rattle.ledger.specs.Ledger.{fresh, ledgerSize, totalOf}
 use Rattle.ledger.specs.Plain.{Plain, opened, plainView, encode}
 use Rattle.ledger.specs.Calls.{openCall}
 use Rattle.ledger.proofs.Image.{Good}
-use Rattle.sheet.specs.Posts.{Post, postsBytes, plainPosts}
-use Rattle.sheet.proofs.Simulation.{good-opened, posts-good, ledger-is, answers-are}
+use Rattle.sheet.specs.Posts.{postsBytes, plainPosts}
+use Rattle.sheet.proofs.Simulation.{posts-good, ledger-is, answers-are}
+use Rattle.posting.specs.Posts.{Post}
+use Rattle.posting.proofs.Simulation.{good-opened}
 use Rattle.closing.specs.Closing.{lowOf, highOf, settledAt, digitsAt, closeBy, closeCall}
 use Rattle.closing.proofs.Encoded.{answer-encoded, bytes-encoded}
 use Rattle.settlement.specs.Settlement.{allSums, Closed, Settled, Demand3}

@@ -11,8 +11,8 @@ use Rattle.series.specs.Series.{Formula, Side, plus, minus, rowAt, rowSum, size
 use Rattle.run.specs.Run.{limitsOf, inRange, isTicket, bound, ticketSum}
 use Rattle.run.specs.Call.{answered, bytesLeft}
 use Rattle.ticket.specs.Work.{workCall}
+use Rattle.settlement.specs.RoundTrip.{WrittenReadsBack, AcceptedIsWritten}
 use Rattle.ticket.specs.declared.Part.the-variants.{Whole}
-use Rattle.sheet.specs.RoundTrip.{WrittenReadsBack, AcceptedIsWritten}
 
 -- the sizes of a ticket's terms on one side, added up: each is the exact term cut down to 128 fraction bits, modulo 2 ^ 128
 unfoldable pub sideOf : Formula → Side → ℕ → ℕ → ℕ → ℕ → ℕ

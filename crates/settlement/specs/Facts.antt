@@ -9,8 +9,9 @@ use Rattle.run.specs.Refusal.{Test, Applies, Smallest}
 use Rattle.run.specs.Run.{limitsOf}
 use Rattle.run.specs.Call.{refusedBy}
 use Rattle.sheet.specs.Sheet.{sheetBlocks, sheetCount}
-use Rattle.sheet.specs.Calls.{writeCall, readCall, sheetPostCall}
-use Rattle.sheet.specs.Posts.{OneByOne}
+use Rattle.sheet.specs.Calls.{writeCall, readCall}
+use Rattle.posting.specs.Calls.{sheetPostCall}
+use Rattle.posting.specs.Posts.{OneByOne}
 use Rattle.look.specs.Look.{lookCall}
 use Rattle.calls.specs.Request.{Request, callOf}
 use Rattle.settlement.specs.Halves.{HalvesMakeWhole}

@@ -11,13 +11,14 @@ use Rattle.words.specs.Bytes.{bytesOf, AllBytes}
 use Rattle.series.specs.Series.{Formula}
 use Rattle.series.specs.Bellard.{bellard}
 use Rattle.run.specs.Refusal.{answer}
-use Rattle.run.specs.Run.{Limits, limitsOf, inRange}
+use Rattle.run.specs.Run.{Limits, limitsOf, inRange, Entry}
 use Rattle.run.specs.Call.{bytesLeft, answered}
 use Rattle.ledger.specs.Ledger.{totalOf, fresh}
-use Rattle.ledger.specs.Plain.{Entry, Plain, plainView, opened}
+use Rattle.ledger.specs.Plain.{Plain, plainView, opened}
 use Rattle.sheet.specs.Sheet.{sheetOf}
-use Rattle.sheet.specs.Calls.{sheetPostCall}
-use Rattle.sheet.specs.Posts.{Post, sheet, postAnswer, postBytes, plainAnswer, plainPost, postsBytes}
+use Rattle.sheet.specs.Posts.{postsBytes}
+use Rattle.posting.specs.Calls.{sheetPostCall}
+use Rattle.posting.specs.Posts.{Post, sheet, postAnswer, postBytes, plainAnswer, plainPost}
 use Rattle.look.specs.Look.{unmarkedOf, lookRefusal, lookCall}
 use Rattle.look.specs.AsPosting.{LooksAsPosted, AllLessMarks}
 use Rattle.closing.specs.Closing.{closeCall}

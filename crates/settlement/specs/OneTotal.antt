@@ -9,11 +9,12 @@ use lib.IntN.{ℤ}
 use Rattle.series.specs.Series.{Formula, modulus}
 use Rattle.interval.specs.Interval.{isCharged}
 use Rattle.run.specs.Refusal.{answer}
-use Rattle.run.specs.Run.{Limits, limitsOf, inRange}
+use Rattle.run.specs.Run.{Limits, limitsOf, inRange, Entry}
 use Rattle.run.specs.Call.{answered, bytesLeft}
 use Rattle.ledger.specs.Ledger.{View, fresh, posIn, blocksIn, totalIn, markIn}
-use Rattle.ledger.specs.Plain.{Entry, including}
-use Rattle.sheet.specs.Posts.{Post, postRefusal, postEntries, postsBytes, postsAnswers}
+use Rattle.ledger.specs.Plain.{including}
+use Rattle.sheet.specs.Posts.{postsBytes, postsAnswers}
+use Rattle.posting.specs.Posts.{Post, postRefusal, postEntries}
 use Rattle.closing.specs.Closing.{Ordered, closeBy, closeCall}
 
 -- ---- the ledger with one total

@@ -8,8 +8,7 @@ use Rattle.series.specs.Check.{check}
 use Rattle.series.specs.Fitting.{Position}
 use Rattle.interval.specs.Exact.{MakesWhole}
 use Rattle.interval.specs.Interval.{isCharged, Positive, RestBelowUnit}
-use Rattle.sheet.specs.RoundTrip.{Fits}
-use Rattle.sheet.specs.Posts.{Post}
+use Rattle.posting.specs.Posts.{Post}
 use Rattle.settlement.specs.Refused.{Demand1}
 use Rattle.settlement.specs.Agreement.{Demand2}
 use Rattle.settlement.specs.Settlement.{Filled, Demand3}
@@ -18,6 +17,7 @@ use Rattle.settlement.specs.EveryTerm.{NoWider}
 use Rattle.settlement.specs.Facts.{Facts}
 use Rattle.settlement.specs.Looks.{Looks}
 use Rattle.settlement.specs.Squarings.{Countable, Squarings}
+use Rattle.settlement.specs.RoundTrip.{Fits}
 
 -- What is asked: rows fit a byte and positions 8 bytes, every N is at least 1, and at every position of a run the exact terms that are not
 -- charged, together with all from K on, at every length add up to less than one unit on each side.

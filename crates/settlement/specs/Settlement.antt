@@ -12,12 +12,13 @@ use Rattle.series.specs.Series.{Formula, rowCount, termCount, modulus}
 use Rattle.digits.specs.Digits.{unitAt, Greatest, NoneSettled, OneOutcome, lowDigits}
 use Rattle.interval.specs.Exact.{MakesWhole, exactSum}
 use Rattle.interval.specs.Interval.{isCharged, LiesFrom}
-use Rattle.run.specs.Run.{limitsOf, inRange, isTicket, ticketSum}
+use Rattle.run.specs.Run.{limitsOf, inRange, isTicket, ticketSum, Entry}
 use Rattle.run.specs.Call.{answered, bytesLeft}
 use Rattle.ledger.specs.Ledger.{fresh, ledgerSize, totalOf}
-use Rattle.ledger.specs.Plain.{Entry, opened, encode}
+use Rattle.ledger.specs.Plain.{opened, encode}
 use Rattle.ledger.specs.Calls.{openCall}
-use Rattle.sheet.specs.Posts.{Post, postsBytes, postsAnswers, plainPosts, plainAnswers, occurrences, contains}
+use Rattle.sheet.specs.Posts.{postsBytes, postsAnswers, plainPosts, plainAnswers}
+use Rattle.posting.specs.Posts.{Post, occurrences, contains}
 use Rattle.closing.specs.Closing.{lowOf, highOf, closeCall}
 
 -- Each ticket of the run occurs in the list, and carries its right sum wherever it occurs.

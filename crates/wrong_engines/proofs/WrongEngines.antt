@@ -39,9 +39,12 @@ use Rattle.ledger.specs.Plain.{Plain, opened, plainView, admit, including, addi
 use Rattle.ledger.proofs.Image.{Good, pos-encode, sum-encode}
 use Rattle.ledger.specs.Calls.{ticketRefusal, postCall}
 use Rattle.sheet.specs.Sheet.{sheetPos, sheetBlocks, sheetCount, rowIn, blockIn, sumIn, entriesFrom, entries, every, ascending, wellFormed, contentsOf, bodiesOf, sheetOf}
-use Rattle.sheet.specs.Calls.{sheetRefusal, sheetPostCall}
-use Rattle.sheet.specs.Posts.{Post, ticket, postBytes, postsBytes, postRefusal, postEntries, plainPost, plainPosts}
-use Rattle.sheet.proofs.Simulation.{good-opened, posts-good}
+use Rattle.sheet.specs.Calls.{sheetRefusal}
+use Rattle.sheet.specs.Posts.{postsBytes, plainPosts}
+use Rattle.sheet.proofs.Simulation.{posts-good}
+use Rattle.posting.specs.Calls.{sheetPostCall}
+use Rattle.posting.specs.Posts.{Post, ticket, postBytes, postRefusal, postEntries, plainPost}
+use Rattle.posting.proofs.Simulation.{good-opened}
 use Rattle.look.specs.Look.{unmarkedOf, unmarkedIn, lookRefusal, lookCall}
 use Rattle.closing.specs.Closing.{settledAt, digitsAt, closeBy, closeCall}
 use Rattle.closing.proofs.Closing.{nine-alone}

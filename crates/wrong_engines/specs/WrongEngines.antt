@@ -18,16 +18,16 @@ use Rattle.series.specs.Bellard.{bellard}
 use Rattle.digits.specs.Digits.{unitAt}
 use Rattle.interval.specs.Interval.{Rule, isCharged, everyTerm}
 use Rattle.run.specs.Refusal.{_⇐_, refusal, answer}
-use Rattle.run.specs.Run.{Limits, limitsOf, inRange, isTicket, bound}
+use Rattle.run.specs.Run.{Limits, limitsOf, inRange, isTicket, bound, Entry}
 use Rattle.run.specs.Call.{bytesLeft, refusedBy, answered}
 use Rattle.ticket.specs.Parts.{cut, partFirst, partCount, partSquarings}
 use Rattle.ticket.specs.Work.{workCall, quoteCall}
 use Rattle.ticket.specs.declared.Part.{Part}
 use Rattle.ticket.specs.declared.Part.the-variants.{Whole, Lower, Upper}
 use Rattle.ledger.specs.Ledger.{ledgerSize, viewOf, posIn, blocksIn, rowSumIn, totalOf, totalIn, bitIn, inOrder, fresh, enter}
-use Rattle.ledger.specs.Plain.{Entry}
-use Rattle.sheet.specs.Posts.{Post, postRefusal, postEntries, postBytes, postsBytes}
-use Rattle.sheet.specs.Calls.{sheetPostCall}
+use Rattle.sheet.specs.Posts.{postsBytes}
+use Rattle.posting.specs.Posts.{Post, postRefusal, postEntries, postBytes}
+use Rattle.posting.specs.Calls.{sheetPostCall}
 use Rattle.look.specs.Look.{unmarkedIn, lookCall}
 use Rattle.closing.specs.Closing.{lowOf, highOf, settledAt, closeBy, closeCall}
 use Rattle.settlement.specs.Settlement.{Filled, allSums}

@@ -20,7 +20,7 @@ returns : tie.Need-returns
 returns c = ledger-size _ _ _ (λ e. c .if1 .taken (e ∙ sym (c .before .ledger-size .ensures)))
 
 returns-2 : tie.Need-returns-2
-returns-2 c = digits-size _ _ _ (c .before .if1 .left ∙ c .before .before .ledger-size .ensures) (c .if2 .taken)
+returns-2 c = digits-size _ _ _ (c .if2 .taken)
 
 in-order-requires : tie.Need-in-order-requires
 in-order-requires c κs = search needs
@@ -34,8 +34,8 @@ returns-3 c =
 get-requires : tie.Need-get-requires
 get-requires c κs = search needs
 
-rows-full-requires : tie.Need-rows-full-requires
-rows-full-requires c κs =
+all-below-requires : tie.Need-all-below-requires
+all-below-requires c κs =
     let order = c .before in
     let size = order .before .before in
     let sized = size .before .if1 .left ∙ size .before .before .ledger-size .ensures in
@@ -49,7 +49,7 @@ returns-4 c =
     let size = order .before .before in
     unmarked _ _ _ (size .before .if1 .left ∙ size .before .before .ledger-size .ensures) (size .if2 .left)
     (sym (order .before .in-order .ensures) ∙ not-false _ (order .if3 .left))
-    (sym (full-read (formulaOf (size .before .before .before .before .before .args .f)) _ _ _ (full .before .get .ensures) (full .rows-full .ensures)) ∙ not-true _ (c .if4 .taken))
+    (sym (full-read (formulaOf (size .before .before .before .before .before .args .f)) _ _ _ (full .before .get .ensures) (full .all-below .ensures)) ∙ not-true _ (c .if4 .taken))
 
 settle-requires : tie.Need-settle-requires
 settle-requires c κs =
@@ -68,7 +68,7 @@ returns-5 c =
     let size = order .before .before in
     unsettled _ _ _ (size .before .if1 .left ∙ size .before .before .ledger-size .ensures) (size .if2 .left)
     (sym (order .before .in-order .ensures) ∙ not-false _ (order .if3 .left))
-    (sym (full-read (formulaOf (size .before .before .before .before .before .args .f)) _ _ _ (full .before .get .ensures) (full .rows-full .ensures)) ∙ not-false _ (marks .if4 .left))
+    (sym (full-read (formulaOf (size .before .before .before .before .before .args .f)) _ _ _ (full .before .get .ensures) (full .all-below .ensures)) ∙ not-false _ (marks .if4 .left))
     (sym (c .before .settle .ensures) ∙ c .if5 .taken)
 
 cast-t15 : tie.Need-cast-t15
@@ -87,7 +87,7 @@ returns-6 c =
     ap pos (c .before .settle .ensures)
     ∙ closes _ _ _ (size .before .if1 .left ∙ size .before .before .ledger-size .ensures) (size .if2 .left)
     (sym (order .before .in-order .ensures) ∙ not-false _ (order .if3 .left))
-    (sym (full-read (formulaOf (size .before .before .before .before .before .args .f)) _ _ _ (full .before .get .ensures) (full .rows-full .ensures)) ∙ not-false _ (marks .if4 .left))
+    (sym (full-read (formulaOf (size .before .before .before .before .before .args .f)) _ _ _ (full .before .get .ensures) (full .all-below .ensures)) ∙ not-false _ (marks .if4 .left))
     (λ z. c .if5 .left (c .before .settle .ensures ∙ z))
 
 pub test-closing-spec : {M : Type 1} → statement M
@@ -100,7 +100,7 @@ test-closing-spec =
     in-order-requires
     returns-3
     get-requires
-    rows-full-requires
+    all-below-requires
     returns-4
     settle-requires
     returns-5
