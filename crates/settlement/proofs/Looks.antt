@@ -28,7 +28,6 @@ use Rattle.sheet.specs.Tests.{sheetSized}
 use Rattle.sheet.specs.Sheet.{sheetPos, sheetBlocks, sheetCount, rowIn, blockIn, sumIn, entriesFrom, entries, every, ascending, wellFormed, contentsOf, bodiesOf, sheetOf}
 use Rattle.posting.specs.Posts.{sheet, postRefusal, postEntries, postBytes, plainAnswer, plainPost, onBytes}
 use Rattle.posting.specs.Calls.{sheetTests, sheetPostCall}
-use Rattle.posting.specs.Posts.{sheet, postRefusal, postEntries, postBytes, plainAnswer, plainPost, onBytes}
 use Rattle.posting.proofs.Simulation.{step, post-answers, Holds, one-post, fresh-holds}
 use Rattle.look.specs.Look.{unmarkedOf, unmarkedIn, lookTests, lookCall}
 use Rattle.look.proofs.Posted.{all-in, post-leaves}

@@ -20,8 +20,7 @@ use Rattle.ledger.specs.Ledger.{View, viewOf, ledgerSize, totalOf, totalIn}
 use Rattle.ledger.specs.Plain.{Plain, plainView, opened, admit, including}
 use Rattle.ledger.proofs.RowSums.{total-adding}
 use Rattle.ledger.proofs.Image.{total-encode}
-use Rattle.posting.specs.Posts.{Post, postRefusal, postEntries, plainPost, plainAnswer, onPlain, plainAfter}
-use Rattle.posting.specs.Posts.{Post, postRefusal, postEntries, plainPost, plainAnswer, onPlain, plainAfter}
+use Rattle.posting.specs.Posts.{Post, postRefusal, postEntries, plainPost, plainAnswer, onPlain, plainAfter, plainAnswersTo}
 use Rattle.posting.proofs.Simulation.{Ready, post-ready, after-fresh}
 use Rattle.closing.specs.Closing.{closeBy, closeCall}
 use Rattle.closing.proofs.Encoded.{answer-encoded, bytes-encoded}
@@ -67,7 +66,7 @@ module _ (lim : Limits) where
   as-answer s a = ap (λ (v : View). answer (postRefusal lim v a) 0) (sym (same-view s))
 
   as-one : (p C : ℕ) (posts : List Post)
-      → (answers (onPlain lim) (opened p C) posts ≡ answers (onOneTotal lim) (oneOpened p C) posts)
+      → (plainAnswersTo lim p C posts ≡ answers (onOneTotal lim) (oneOpened p C) posts)
       × (asOne lim (plainAfter lim p C posts) ≡ leaves (onOneTotal lim) (oneOpened p C) posts)
   as-one p C =
       agree (onPlain lim) (onOneTotal lim) (λ s o. asOne lim s ≡ o)

@@ -29,8 +29,6 @@ use Rattle.ledger.specs.Calls.{openCall}
 use Rattle.ledger.proofs.Image.{Good}
 use Rattle.posting.specs.Posts.{Post, ledgerAfter, plainAfter}
 use Rattle.posting.proofs.Simulation.{after-fresh}
-use Rattle.posting.specs.Posts.{Post, ledgerAfter, plainAfter}
-use Rattle.posting.proofs.Simulation.{after-fresh}
 use Rattle.closing.specs.Closing.{lowOf, highOf, settledAt, digitsAt, closeBy, closeCall}
 use Rattle.closing.proofs.Encoded.{answer-encoded, bytes-encoded}
 use Rattle.settlement.specs.Settlement.{allSums, Closed, Settled, Demand3}

@@ -19,7 +19,6 @@ use Rattle.ledger.specs.Plain.{Plain, plainView, opened}
 use Rattle.sheet.specs.Sheet.{sheetOf}
 use Rattle.posting.specs.Posts.{Post, sheet, postAnswer, postBytes, plainAnswer, plainPost, onBytes}
 use Rattle.posting.specs.Calls.{sheetPostCall}
-use Rattle.posting.specs.Posts.{Post, sheet, postAnswer, postBytes, plainAnswer, plainPost, onBytes}
 use Rattle.look.specs.Look.{unmarkedOf, lookTests, lookCall}
 use Rattle.look.specs.AsPosting.{LooksAsPosted, AllLessMarks}
 use Rattle.closing.specs.Closing.{closeCall}

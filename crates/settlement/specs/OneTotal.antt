@@ -12,10 +12,9 @@ use Rattle.interval.specs.Interval.{isCharged}
 use Rattle.run.specs.Refusal.{answer}
 use Rattle.run.specs.Run.{Limits, limitsOf, inRange, Entry}
 use Rattle.run.specs.Call.{answered, bytesLeft}
-use Rattle.ledger.specs.Ledger.{View, fresh, posIn, blocksIn, totalIn, markIn}
+use Rattle.ledger.specs.Ledger.{View, posIn, blocksIn, totalIn, markIn}
 use Rattle.ledger.specs.Plain.{including}
-use Rattle.posting.specs.Posts.{Post, postRefusal, postEntries, onBytes, ledgerAfter}
-use Rattle.posting.specs.Posts.{Post, postRefusal, postEntries, onBytes, ledgerAfter}
+use Rattle.posting.specs.Posts.{Post, postRefusal, postEntries, ledgerAfter, answersTo}
 use Rattle.closing.specs.Closing.{Ordered, closeBy, closeCall}
 
 -- ---- the ledger with one total
@@ -62,7 +61,7 @@ oneCloseBytes F s digits = bytesLeft (closeBy isCharged F (oneView s) (s .total)
 -- Every list of posts on a fresh ledger, and the same list on the ledger with one total.
 pub record SameAsOne (F : Formula) (p C : ℕ) (posts : List Post) : Type 0 where
   pub total : totalIn (limitsOf F) (ledgerAfter (limitsOf F) p C posts) ≡ leaves (onOneTotal (limitsOf F)) (oneOpened p C) posts .total
-  pub answers : answers (onBytes (limitsOf F)) (fresh (limitsOf F) p C) posts ≡ answers (onOneTotal (limitsOf F)) (oneOpened p C) posts
+  pub answers : answersTo (limitsOf F) p C posts ≡ answers (onOneTotal (limitsOf F)) (oneOpened p C) posts
   pub closing : (digits : List ℕ)
       → (answered (closeCall F (ledgerAfter (limitsOf F) p C posts) digits) ≡ oneCloseAnswer F (leaves (onOneTotal (limitsOf F)) (oneOpened p C) posts) digits)
       × (bytesLeft (closeCall F (ledgerAfter (limitsOf F) p C posts) digits) 0 ≡ oneCloseBytes F (leaves (onOneTotal (limitsOf F)) (oneOpened p C) posts) digits)

@@ -6,7 +6,6 @@ use mathlib.Core.List.{List, _++_, List·Memᴰ}
 use Prim.Native.Nat.{ℕ, _*_, _%_, _≤_, _<_}
 use lib.IntN.{ℤ, pos, negℤ}
 use lib.ListN.{length, drop}
-use Rattle.algebra.specs.Machine.{answers}
 use Rattle.algebra.specs.Sum.{sum}
 use Rattle.algebra.specs.Whole.{quotient}
 use Rattle.series.specs.Series.{Formula, rowCount, termCount, modulus}
@@ -18,8 +17,7 @@ use Rattle.run.specs.Call.{answered, bytesLeft}
 use Rattle.ledger.specs.Ledger.{fresh, ledgerSize, totalOf}
 use Rattle.ledger.specs.Plain.{opened, encode}
 use Rattle.ledger.specs.Calls.{openCall}
-use Rattle.posting.specs.Posts.{Post, onBytes, onPlain, ledgerAfter, plainAfter, occurrences, contains}
-use Rattle.posting.specs.Posts.{Post, onBytes, onPlain, ledgerAfter, plainAfter, occurrences, contains}
+use Rattle.posting.specs.Posts.{Post, ledgerAfter, answersTo, plainAfter, plainAnswersTo, occurrences, contains}
 use Rattle.closing.specs.Closing.{lowOf, highOf, closeCall}
 
 -- Each ticket of the run occurs in the list, and carries its right sum wherever it occurs.
@@ -63,7 +61,7 @@ pub record Settled (F : Formula) (p C : ℕ) (posts : List Post) : Type 0 where
   pub opens : (s : List ℕ) → length s ≡ ledgerSize (limitsOf F)
       → (answered (openCall (limitsOf F) p C s) ≡ pos 0) × (bytesLeft (openCall (limitsOf F) p C s) 0 ≡ fresh (limitsOf F) p C)
   -- the posts answer, and leave the ledger, as the plain ledger does
-  pub answers : answers (onBytes (limitsOf F)) (fresh (limitsOf F) p C) posts ≡ answers (onPlain (limitsOf F)) (opened p C) posts
+  pub answers : answersTo (limitsOf F) p C posts ≡ plainAnswersTo (limitsOf F) p C posts
   pub ledger : ledgerAfter (limitsOf F) p C posts ≡ encode (limitsOf F) (plainAfter (limitsOf F) p C posts)
   -- in a filled run each row's sum is that of the row's tickets, one for each, and the total is the sum of all tickets
   pub rows : Filled F p C posts → (row : ℕ) → row < rowCount F → finalSums F p C posts row ≡ rowSums F p C row

@@ -41,11 +41,9 @@ use Rattle.ledger.proofs.Image.{Good, pos-encode, sum-encode}
 use Rattle.ledger.specs.Calls.{postTests, postCall}
 use Rattle.sheet.specs.Sheet.{sheetPos, sheetBlocks, sheetCount, rowIn, blockIn, sumIn, entriesFrom, entries, every, ascending, wellFormed, contentsOf, bodiesOf, sheetOf}
 use Rattle.sheet.specs.Tests.{sheetSized}
-use Rattle.posting.specs.Calls.{sheetTests}
-use Rattle.posting.specs.Posts.{ledgerAfter, plainAfter}
+use Rattle.posting.specs.Calls.{sheetTests, sheetPostCall}
+use Rattle.posting.specs.Posts.{ledgerAfter, plainAfter, Post, ticket, postBytes, postRefusal, postEntries, plainPost}
 use Rattle.posting.proofs.Simulation.{after-fresh}
-use Rattle.posting.specs.Calls.{sheetPostCall}
-use Rattle.posting.specs.Posts.{Post, ticket, postBytes, postRefusal, postEntries, plainPost}
 use Rattle.look.specs.Look.{unmarkedOf, unmarkedIn, lookTests, lookCall}
 use Rattle.closing.specs.Closing.{settledAt, digitsAt, closeBy, closeCall}
 use Rattle.closing.proofs.Closing.{nine-alone}

@@ -27,7 +27,6 @@ use Rattle.ticket.specs.declared.Part.{Part}
 use Rattle.ticket.specs.declared.Part.the-variants.{Whole, Lower, Upper}
 use Rattle.ledger.specs.Ledger.{ledgerSize, viewOf, posIn, blocksIn, rowSumIn, totalOf, totalIn, bitIn, inOrder, fresh, enter}
 use Rattle.posting.specs.Posts.{Post, postRefusal, postEntries, postAnswer, postBytes, ledgerAfter}
-use Rattle.posting.specs.Posts.{Post, postRefusal, postEntries, postAnswer, postBytes, ledgerAfter}
 use Rattle.posting.specs.Calls.{sheetPostCall}
 use Rattle.look.specs.Look.{unmarkedIn, lookCall}
 use Rattle.closing.specs.Closing.{lowOf, highOf, settledAt, closeBy, closeCall}
