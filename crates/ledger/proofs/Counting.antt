@@ -4,18 +4,19 @@
 use mathlib.Core.Path.{_≡_, refl, sym, ap, ap₂, _∙_}
 use mathlib.Core.Bool.{Bool, true, false, not, cond, _&&_, _||_}
 use mathlib.Core.List.{List}
-use Prim.Native.Nat.{ℕ, zero, suc, _+_, _*_, _-_, _≤_}
+use Prim.Native.Nat.{ℕ, zero, suc, _+_, _*_, _-_, _/_, _%_, _^_, _≤_, _<_}
 use native.Mathlib.Nat.{zero-add, add-zero, add-suc, mul-comm}
 use native.Mathlib.Omega.{arith}
 use borrow.Author.Tests.{eqb-true, eqb-false, ne-eqb, eq-eqb, lt-ltb, le-ltb}
 use lib.Dec.{eqb, ltb}
+use lib.ListN.{getD}
 use mir.Val.{boolByte}
 use Rattle.algebra.specs.Sum.{sum}
 use Rattle.algebra.specs.Test.{allBelow}
-use Rattle.algebra.proofs.Sums.{sum-add, sum-same, sum-none, sum-next}
+use Rattle.algebra.proofs.Sums.{sum-ext, sum-add, sum-same, sum-none, sum-next, sum-from, sum-split}
 use Rattle.algebra.proofs.Below.{all-ext, all-true}
 use Rattle.run.specs.Run.{Limits}
-use Rattle.ledger.specs.Ledger.{bitIn}
+use Rattle.ledger.specs.Ledger.{markAt, bitIn}
 use Rattle.ledger.specs.Marks.{rowMarks, marksFrom}
 
 -- ---- the loops
@@ -36,12 +37,37 @@ module _ (lim : Limits) (s : List ℕ) (first : ℕ) where
       let f : ℕ → ℕ = λ i. cond (bitIn lim s row i) 1 0 in
       let here : first + (block - first) ≡ block = omega arith in
       let more : block + 1 - first ≡ block - first + 1 = omega arith in
-      let set : boolByte b ≡ f (first + (block - first)) = byte-is b ∙ ap (λ (c : Bool). cond c 1 0) q ∙ ap f (sym here) in
+      let bit : boolByte b ≡ f block = byte-is b ∙ ap (λ (c : Bool). cond c 1 0) q in
+      let set : boolByte b ≡ f (first + (block - first)) = rw here bit in
       ap₂ _+_ e set ∙ sym (ap (sum f first) more ∙ sum-next f first (block - first))
     where
       byte-is : (b : Bool) → boolByte b ≡ cond b 1 0
       byte-is true = refl
       byte-is false = refl
+
+  -- a whole byte, which begins at a block that 8 divides
+  bit-of : (row block i : ℕ) → block % 8 ≡ 0 → i < 8 → getD s (markAt lim row block) 0 / 2 ^ i % 2 ≡ cond (bitIn lim s row (block + i)) 1 0
+  unfolding bitIn
+  bit-of row block i z l =
+      let byte : (block + i) / 8 ≡ block / 8 = omega (arith, z) in
+      let bit : (block + i) % 8 ≡ i = omega (arith, z) in
+      sym (rw (byte, bit) (value-is (getD s (markAt lim row block) 0 / 2 ^ i % 2) (omega arith)))
+    where
+      value-is : (y : ℕ) → y < 2 → cond (eqb y 1) 1 0 ≡ y
+      value-is zero k = refl
+      value-is (suc zero) k = refl
+      value-is (suc (suc y)) k = absurd (omega arith)
+
+  pub eight-blocks : (row block at n r : ℕ) → first ≤ block → block % 8 ≡ 0 → at ≡ markAt lim row block → n ≡ rowMarks lim s first (block - first) row
+      → r ≡ sum (λ i. getD s at 0 / 2 ^ i % 2) 0 8 → n + r ≡ rowMarks lim s first (block + 8 - first) row
+  unfolding rowMarks
+  eight-blocks row block at n r h z a e q =
+      let f : ℕ → ℕ = λ i. cond (bitIn lim s row i) 1 0 in
+      let here : first + (block - first) ≡ block = omega arith in
+      let more : block + 8 - first ≡ block - first + 8 = omega arith in
+      let bits : sum (λ i. getD s at 0 / 2 ^ i % 2) 0 8 ≡ sum f block 8 =
+      ap (λ (k : ℕ). sum (λ i. getD s k 0 / 2 ^ i % 2) 0 8) a ∙ sum-ext _ (λ i. f (block + i)) 0 8 (λ i l u. bit-of row block i z (omega arith)) ∙ sum-from f block 8 in
+      ap₂ _+_ e (q ∙ bits ∙ ap (λ (k : ℕ). sum f k 8) (sym here)) ∙ sym (ap (sum f first) more ∙ sum-split f first (block - first) 8)
 
   module _ (n : ℕ) where
     pub no-row : 0 ≡ marksFrom lim s first n 0

@@ -3,9 +3,10 @@
 use series::Series;
 ghost use mathlib.Core.Path.{_≡_};
 ghost use mathlib.Core.Bool.{false, not, _||_};
-ghost use Prim.Native.Nat.{_-_, _*_, _≤_, _<_};
+ghost use Prim.Native.Nat.{_-_, _*_, _/_, _%_, _^_, _≤_, _<_};
 ghost use lib.Dec.{ltb};
 ghost use lib.ListN.{length};
+ghost use Rattle.algebra.specs.Sum.{sum};
 ghost use Rattle.algebra.specs.Test.{allBelow};
 ghost use Rattle.series.specs.Names.{formulaOf};
 ghost use Rattle.series.specs.Series.{rowCount};
@@ -45,7 +46,23 @@ pub fn set_bit(f: Series, ledger: &mut [u8], row: usize, block: usize)
     ledger[at] = byte;
 }
 
-// How many bits of a row are set, from block `first` up to, not including, `end`.
+// How many bits of a byte are set.
+pub fn ones(byte: u8) -> usize
+    ensures counts { λ r. ⌜ r ≡ sum (λ i. byte / 2 ^ i % 2) 0 8 ⌝ }
+    ensures few { λ r. ⌜ r ≤ 8 ⌝ }
+{
+    let b = byte as usize;
+    b % 2
+        + (b >> 1) % 2
+        + (b >> 2) % 2
+        + (b >> 3) % 2
+        + (b >> 4) % 2
+        + (b >> 5) % 2
+        + (b >> 6) % 2
+        + (b >> 7) % 2
+}
+
+// How many bits of a row are set, from block `first` up to, not including, `end`: by whole bytes where they lie between the two.
 pub fn count_row(f: Series, s: &[u8], row: usize, first: usize, end: usize) -> usize
     requires { ⌜
         (length (now s) ≡ ledgerSize (limitsOf (formulaOf f))) × (row < rowCount (formulaOf f)) × (first ≤ end) × (end ≤ 256)
@@ -53,11 +70,17 @@ pub fn count_row(f: Series, s: &[u8], row: usize, first: usize, end: usize) -> u
     ensures counts { λ r. ⌜ r ≡ rowMarks (limitsOf (formulaOf f)) (now (s .entry)) first (end - first) row ⌝ }
     ensures few { λ r. ⌜ r ≤ 256 ⌝ }
 {
+    let at = start(f) + 32 * row;
     let mut marks = 0;
     let mut block = first;
     while block < end {
-        marks += bit_set(f, s, row, block) as usize;
-        block += 1;
+        if block % 8 == 0 && block + 8 <= end {
+            marks += ones(s[at + block / 8]);
+            block += 8;
+        } else {
+            marks += bit_set(f, s, row, block) as usize;
+            block += 1;
+        }
     }
     marks
 }

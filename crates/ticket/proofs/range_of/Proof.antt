@@ -7,13 +7,12 @@ use borrow.Author.Needs.{needs}
 use Rattle.series.specs.Series.{Formula, termCount}
 use Rattle.series.proofs.Numbers.{count-small}
 use Rattle.run.specs.Run.{bound}
-use Rattle.run.proofs.Blocks.{bound-le}
+use Rattle.run.proofs.Blocks.{bound-le, bounded}
 use Rattle.run.proofs.Positions.{position}
 use Rattle.run.proofs.Range.{range-of}
 use Rattle.ticket.specs.Parts.{cut, partFirst, partEnd}
 use Rattle.ticket.specs.declared.Part.{Part}
 use Rattle.ticket.specs.declared.Part.the-variants.{Whole, Lower, Upper}
-use Rattle.ticket.proofs.Bounding.{bounded}
 use Rattle.ticket.proofs.range_of.Statement.{statement}
 use Rattle.ticket.proofs.range_of.Tie as tie
 
