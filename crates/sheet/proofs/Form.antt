@@ -95,6 +95,26 @@ module _ (lim : Limits) (s : List ℕ) (p C : ℕ) (ep : p ≡ field s 0 8) (eC 
       unfolding refusal answer sheetPos sheetBlocks entries
       accepted u = rw (← ep, ← eC, r, ← formed, f, ← counted, ← tickets, u) refl
 
+-- the same of a list
+module _ (F : Formula) (p C : ℕ) (list : List ℕ) where
+  pub list-out-of-range : inRange (limitsOf F) p C ≡ false → negsuc 1 ≡ tested (ofList F p C list)
+  unfolding refusal answer
+  list-out-of-range r = rw r refl
+
+  module _ (r : inRange (limitsOf F) p C ≡ true) (b : Bool) (ascends : b ≡ ascending (listed F p C list)) where
+    pub list-malformed : b ≡ false → negsuc 2 ≡ tested (ofList F p C list)
+    unfolding refusal answer
+    list-malformed f = rw (r, ← ascends, f) refl
+
+    module _ (f : b ≡ true) (t : Bool) (tickets : t ≡ allTickets (limitsOf F) C (listed F p C list)) where
+      pub list-no-ticket : t ≡ false → negsuc 3 ≡ tested (ofList F p C list)
+      unfolding refusal answer
+      list-no-ticket u = rw (r, ← ascends, f, ← tickets, u) refl
+
+      pub list-accepted : t ≡ true → pos 0 ≡ tested (ofList F p C list)
+      unfolding refusal answer
+      list-accepted u = rw (r, ← ascends, f, ← tickets, u) refl
+
 -- ---- what is known where they are passed
 
 pub record SheetPassed (lim : Limits) (s : List ℕ) : Type 0 where
