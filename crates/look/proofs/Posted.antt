@@ -80,9 +80,9 @@ module _ (lim : Limits) (fits : lim .last < 2 ^ 64) (ledger b : List ℕ) (bytes
   pub all-in : Plain
   all-in = foldl admit (decode lim ledger) (entries b)
 
-  pub leaves : (bytesLeft (sheetPostCall lim ledger b) 0 ≡ encode lim all-in) × Good lim all-in
+  pub post-leaves : (bytesLeft (sheetPostCall lim ledger b) 0 ≡ encode lim all-in) × Good lim all-in
   unfolding sheetPostCall refusedBy answered allLeft all-in
-  leaves =
+  post-leaves =
       let e = entered lim (decode lim ledger) (entries b) (holds .good) ready in (
         sym (changed _ _ ledger (not-refused _ 0 0 taken .0)) ∙ ap (λ (l : List ℕ). foldl (enterEntry lim) l (entries b)) (sym (holds .again)) ∙ e .0,
         e .1,
@@ -95,7 +95,7 @@ module _ (lim : Limits) (fits : lim .last < 2 ^ 64) (ledger b : List ℕ) (bytes
       ∙ unmarked-all lim (decode lim ledger) (entries b) ready
       ∙ ap (λ (n : ℕ). unmarkedOf lim (plainView all-in) + n) (count-entries b (sheetCount b) 0)
       ∙ ap (λ (n : ℕ). n + sheetCount b)
-      (ap (unmarkedOf lim) (sym (view-encode lim all-in (leaves .1))) ∙ ap (unmarkedIn lim) (sym (leaves .0)))
+      (ap (unmarkedOf lim) (sym (view-encode lim all-in (post-leaves .1))) ∙ ap (unmarkedIn lim) (sym (post-leaves .0)))
 
   -- all tickets of the run: those that would remain, the sheet's, and those marked before
   pub all-tickets : (r C e m : ℕ) → r ≡ lim .rows → C ≡ blocksIn ledger → e ≡ sheetCount b → m ≡ marksFrom lim ledger 0 (C - 0) (lim .rows)
@@ -135,4 +135,4 @@ module _ (lim : Limits) (fits : lim .last < 2 ^ 64) (ledger b : List ℕ) (bytes
   unfolding after all-in entries sumIn
   total-left e first t counted ef et =
       et ∙ ap₂ (λ (m n : ℕ). (m + sum (bodyAt b n) 0 n) % modulus) ef counted
-      ∙ sym (total-after (sheetCount b) (omega arith)) ∙ sym (ap (totalIn lim) (leaves .0) ∙ total-encode lim all-in (leaves .1))
+      ∙ sym (total-after (sheetCount b) (omega arith)) ∙ sym (ap (totalIn lim) (post-leaves .0) ∙ total-encode lim all-in (post-leaves .1))

@@ -24,7 +24,7 @@ use Rattle.ledger.proofs.Posting.{post-taken}
 use Rattle.ledger.proofs.RowSums.{adding-fits}
 use Rattle.ledger.proofs.Image.{Good, including-else, view-encode, enter-encode, fresh-encode}
 use Rattle.posting.specs.Calls.{enterEntry, sheetPostCall}
-use Rattle.posting.specs.Posts.{Post, ticket, sheet, postRefusal, postEntries, postBytes, postAnswer, plainAnswer, plainPost, onBytes, onPlain, ledgerAfter, plainAfter}
+use Rattle.posting.specs.Posts.{Post, ticket, sheet, postRefusal, postEntries, postBytes, postAnswer, plainAnswer, plainPost, onBytes, onPlain, ledgerAfter, answersTo, plainAfter, plainAnswersTo}
 use Rattle.posting.proofs.Testing.{every-and, sheet-taken}
 
 -- ---- the plain ledger as opened
@@ -167,6 +167,6 @@ module _ (lim : Limits) where
     pub fresh-holds : Holds (fresh lim p C) (opened p C)
     fresh-holds = (fresh-encode lim p C, good-opened lim p C fits range)
 
-    pub after-fresh : (posts : List Post) → (answers (onBytes lim) (fresh lim p C) posts ≡ answers (onPlain lim) (opened p C) posts)
+    pub after-fresh : (posts : List Post) → (answersTo lim p C posts ≡ plainAnswersTo lim p C posts)
         × Holds (ledgerAfter lim p C posts) (plainAfter lim p C posts)
     after-fresh = posts-agree (fresh lim p C) (opened p C) fresh-holds

@@ -64,12 +64,19 @@ onBytes lim = record { next = postBytes lim; answer = postAnswer lim }
 abbrev pub onPlain : Limits → Machine Plain Post ℤ
 onPlain lim = record { next = plainPost lim; answer = plainAnswer lim }
 
--- the ledger that a list of posts on a fresh one leaves, and the plain ledger that it leaves
+-- what a list of posts on a fresh ledger leaves and answers
 abbrev pub ledgerAfter : Limits → ℕ → ℕ → List Post → List ℕ
 ledgerAfter lim p C posts = leaves (onBytes lim) (fresh lim p C) posts
 
+abbrev pub answersTo : Limits → ℕ → ℕ → List Post → List ℤ
+answersTo lim p C posts = answers (onBytes lim) (fresh lim p C) posts
+
+-- and the same of the plain ledger
 abbrev pub plainAfter : Limits → ℕ → ℕ → List Post → Plain
 plainAfter lim p C posts = leaves (onPlain lim) (opened p C) posts
+
+abbrev pub plainAnswersTo : Limits → ℕ → ℕ → List Post → List ℤ
+plainAnswersTo lim p C posts = answers (onPlain lim) (opened p C) posts
 
 -- ---- a sheet as posts of its tickets one by one
 

@@ -21,7 +21,7 @@ use Rattle.run.proofs.Calls.{leaves, finishes}
 use Rattle.ticket.specs.Work.{isSized, bothSized, workCall}
 use Rattle.ticket.specs.declared.Part.the-variants.{Whole}
 use Rattle.ticket.proofs.Parts.{whole-sum}
-use Rattle.settlement.specs.Agreement.{sideOf, Worked, Demand2}
+use Rattle.settlement.specs.Agreement.{sideOf, WorkedRight, Demand2}
 use Rattle.settlement.specs.RoundTrip.{Fits}
 use Rattle.settlement.proofs.RoundTrip.{written-reads-back, accepted-is-written}
 
@@ -45,7 +45,7 @@ module _ (F : Formula) (p C row block : ℕ) where
   signed = residue-back modulus (sideOf F plus p C row block) (sideOf F minus p C row block) (pow-pos 128)
 
   worked : (out squarings : List ℕ) → length out ≡ 16 → length squarings ≡ 16 → inRange (limitsOf F) p C ≡ true
-      → isTicket (limitsOf F) C row block ≡ true → Worked F p C row block out squarings
+      → isTicket (limitsOf F) C row block ≡ true → WorkedRight F p C row block out squarings
   unfolding workCall refusedBy bothSized isSized refusal
   worked out squarings l m r t =
       let f = finishes (workCall F Whole p C row block out squarings) (rw (l, m, r, t) refl) in

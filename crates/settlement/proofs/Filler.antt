@@ -11,6 +11,7 @@ use lib.Dec.{eqb}
 use Rattle.algebra.proofs.Booleans.{below-or}
 use Rattle.words.specs.Bytes.{bytesOf, valueOf}
 use Rattle.words.proofs.Bytes.{length-bytes, value-bytes}
+use Rattle.algebra.specs.Machine.{answers, inOneList}
 use Rattle.series.specs.Series.{Formula, rowCount, modulus}
 use Rattle.run.specs.Run.{limitsOf, ticketSum, Entry}
 use Rattle.run.proofs.Range.{ticket-row, ticket-block}
@@ -63,7 +64,7 @@ module _ (F : Formula) (p C : ℕ) where
   AllRight ts = (t : Entry) → List·Memᴰ t ts → Right t
 
   occurrences-are : (s : Plain) (ts : List Entry) → (s .p ≡ p) × (s .C ≡ C) → AllRight ts → occurrences (limitsOf F) s (singles p C ts) ≡ ts
-  unfolding occurrences singles AllRight
+  unfolding answers inOneList singles AllRight
   occurrences-are s [] h r = refl
   occurrences-are s (t ∷ ts) h r =
       ap₂ _++_ (occurs-as s t h (r t (List·Memᴰ·head refl)))

@@ -13,19 +13,19 @@ use lib.Dec.{eqb}
 use lib.ListN.{length}
 use Rattle.algebra.specs.Sum.{sum}
 use Rattle.algebra.proofs.Sums.{sum-ext, sum-zero, sum-bump, sum-rem}
+use Rattle.algebra.specs.Machine.{leaves, answers, inOneList}
 use Rattle.series.specs.Series.{Formula, rowCount, modulus}
 use Rattle.run.specs.Run.{limitsOf, inRange, isTicket, ticketSum, Entry}
 use Rattle.run.proofs.Range.{ticket-block, is-ticket}
 use Rattle.ledger.specs.Ledger.{totalOf}
 use Rattle.ledger.specs.Plain.{Plain, plainView, admit, including, adding, isOf, opened}
-use Rattle.ledger.proofs.Posting.{ticket-taken}
+use Rattle.ledger.proofs.Posting.{post-taken}
 use Rattle.ledger.proofs.RowSums.{adding-here, adding-else}
 use Rattle.ledger.proofs.Image.{Good, including-here, including-else}
 use Rattle.sheet.specs.Sheet.{entries}
-use Rattle.sheet.specs.Posts.{plainPosts}
-use Rattle.sheet.proofs.Writable.{not-refused}
-use Rattle.posting.specs.Posts.{Post, ticket, sheet, postRefusal, postEntries, plainPost, occurring, occurrences, contains}
+use Rattle.posting.specs.Posts.{Post, ticket, sheet, postRefusal, postEntries, plainPost, onPlain, plainAfter, occurring, occurrences, contains}
 use Rattle.posting.proofs.Simulation.{Ready, good-admit, good-opened, post-ready, step}
+use Rattle.posting.proofs.Singles.{not-refused}
 use Rattle.settlement.specs.Settlement.{Filled, rowSums, allSums, finalSums, finalTotal}
 
 module _ (F : Formula) (p C : ℕ) where
@@ -93,7 +93,7 @@ module _ (F : Formula) (p C : ℕ) where
   taken-occurs : (s : Plain) (a : Post) → postRefusal (limitsOf F) (plainView s) a ≡ 0 → occurring (limitsOf F) s a ≡ postEntries a
   unfolding occurring postRefusal plainView postEntries
   taken-occurs s (ticket q D row block x) e =
-      let t = ticket-taken (limitsOf F) (plainView s) q D row block x e in
+      let t = post-taken (limitsOf F) (plainView s) q D row block x e in
       rw (eq-eqb _ _ (t .same-p), eq-eqb _ _ (t .same-C), eq-eqb _ _ (t .sum-sized)) refl
   taken-occurs s (sheet b) e = rw (eq-eqb _ _ e) refl
 
@@ -107,8 +107,8 @@ module _ (F : Formula) (p C : ℕ) where
           kept-all s (postEntries a) k (post-ready (limitsOf F) s a z) (subst Right (taken-occurs s a z) right)
       go false e = k
 
-  pub kept-posts : (s : Plain) (posts : List Post) → Kept s → Right (occurrences (limitsOf F) s posts) → Kept (plainPosts (limitsOf F) s posts)
-  unfolding plainPosts occurrences
+  pub kept-posts : (s : Plain) (posts : List Post) → Kept s → Right (occurrences (limitsOf F) s posts) → Kept (leaves (onPlain (limitsOf F)) s posts)
+  unfolding leaves answers inOneList
   kept-posts s [] k right = k
   kept-posts s (a ∷ posts) k right =
       kept-posts (plainPost (limitsOf F) s a) posts (kept-post s a k (λ t m. right t (Memᴰ·append-left (occurrences (limitsOf F) (plainPost (limitsOf F) s a) posts) m))) (λ t m. right t (Memᴰ·append-right (occurring (limitsOf F) s a) m))
@@ -231,8 +231,8 @@ module _ (F : Formula) (p C : ℕ) where
 
   pub marked-posts : (s : Plain) (posts : List Post) (row block : ℕ) → Good (limitsOf F) s → isTicket (limitsOf F) (s .C) row block ≡ true
       → (s .tickets row block ≡ true) ⊎ (contains (occurrences (limitsOf F) s posts) row block ≡ true)
-      → plainPosts (limitsOf F) s posts .tickets row block ≡ true
-  unfolding plainPosts occurrences
+      → leaves (onPlain (limitsOf F)) s posts .tickets row block ≡ true
+  unfolding leaves answers inOneList
   marked-posts s [] row block g h (inl e) = e
   marked-posts s [] row block g h (inr e) = absurd (empty-has row block e)
   marked-posts s (a ∷ posts) row block g h o =
@@ -252,7 +252,7 @@ module _ (F : Formula) (p C : ℕ) where
   }
 
   pub filled-all : F .last < 2 ^ 64 → inRange (limitsOf F) p C ≡ true → (posts : List Post) → Filled F p C posts → (row block : ℕ) → isTicket (limitsOf F) C row block ≡ true
-      → plainPosts (limitsOf F) (opened p C) posts .tickets row block ≡ true
+      → plainAfter (limitsOf F) p C posts .tickets row block ≡ true
   unfolding opened
   filled-all fits e posts f row block h = marked-posts (opened p C) posts row block (good-opened (limitsOf F) p C fits e) h (inr (f .occurs row block h))
 

@@ -24,8 +24,7 @@ use Rattle.run.specs.Run.{limitsOf}
 use Rattle.run.proofs.Positions.{position}
 use Rattle.run.proofs.Range.{range-of}
 use Rattle.run.specs.Call.{answered, bytesLeft}
-use Rattle.ledger.specs.Ledger.{fresh}
-use Rattle.sheet.specs.Posts.{postsBytes}
+use Rattle.posting.specs.Posts.{ledgerAfter}
 use Rattle.closing.specs.Closing.{lowOf, highOf, settledAt, digitsAt, closeCall}
 use Rattle.settlement.specs.Settlement.{Closed, ClosesWith, finalTotal}
 use Rattle.settlement.specs.Figures.{firstDigits, FirstDigits}
@@ -67,8 +66,8 @@ module _ (F : Formula) (premises : Asked F) (p d : ℕ) (digits : List ℕ) (som
       let s = every-formula F premises .demand3 p C range posts in
       let r = range-of (limitsOf F) p C range in
       let e : finalTotal F p C posts ≡ sizesSum F p K = s .total f ∙ all-tickets F p C (r .C-low) in
-      exact-digits (position F p C range) (postsBytes (limitsOf F) (fresh (limitsOf F) p C) posts) out
-      (subst (λ (t : ℕ). Closed F p (lowOf isCharged F p t) (highOf isCharged F p t) (postsBytes (limitsOf F) (fresh (limitsOf F) p C) posts) out) e (s .closing f out room))
+      exact-digits (position F p C range) (ledgerAfter (limitsOf F) p C posts) out
+      (subst (λ (t : ℕ). Closed F p (lowOf isCharged F p t) (highOf isCharged F p t) (ledgerAfter (limitsOf F) p C posts) out) e (s .closing f out room))
 
 -- at position 1, worked out by antt from the rows of either formula
 at-1 : (f : Series) (d : ℕ) (digits : List ℕ) → 0 < d → settledAt isCharged (formulaOf f) 1 (sizesSum (formulaOf f) 1 (termCount (formulaOf f) 1)) ≡ d

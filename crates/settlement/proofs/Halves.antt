@@ -3,7 +3,7 @@
 -- Assumes nothing.
 use mathlib.Core.Path.{_≡_, sym, ap, ap₂, _∙_}
 use mathlib.Core.Bool.{true}
-use mathlib.Core.List.{List}
+use mathlib.Core.List.{List, []}
 use Prim.Native.Nat.{ℕ, _+_, _*_, _%_, _^_, _≤_, _<_}
 use native.Mathlib.Nat.{pow-suc}
 use native.Mathlib.Numerals.{add-one}
@@ -20,16 +20,16 @@ use Rattle.series.proofs.Numbers.{count-grows}
 use Rattle.series.proofs.RangeSums.{range-sum-lt, split}
 use Rattle.series.proofs.ByHalves.{same-sum}
 use Rattle.run.specs.Run.{limitsOf, inRange, isTicket, bound}
-use Rattle.run.proofs.Answering.{not-refused}
+use Rattle.run.proofs.Answering.{passes, not-refused}
 use Rattle.run.proofs.Calls.{leaves, finishes}
 use Rattle.run.proofs.Range.{range-of, ticket-block}
+use Rattle.run.proofs.Testing.{ticket-passed}
 use Rattle.run.specs.Call.{refusedBy, answered, allLeft, bytesLeft}
 use Rattle.ticket.specs.Parts.{cut, partFirst, partEnd, partCount, partSum, partSquarings}
-use Rattle.ticket.specs.Work.{bothSized, testCall, workCall}
+use Rattle.ticket.specs.Work.{partTests, workCall}
 use Rattle.ticket.specs.declared.Part.{Part}
 use Rattle.ticket.specs.declared.Part.the-variants.{Whole, Lower, Upper}
 use Rattle.ticket.proofs.Parts.{rising, within, meet}
-use Rattle.ticket.proofs.Working.{all-passed}
 use Rattle.settlement.specs.Halves.{HalvesMakeWhole, HalvedWithin, Depths}
 
 module _ (F : Formula) (p C row block : ℕ) where
@@ -66,8 +66,11 @@ module _ (F : Formula) (p C row block : ℕ) where
     none = not-refused _ _ _ a .0
 
     pub taken : (inRange (limitsOf F) p C ≡ true) × (isTicket (limitsOf F) C row block ≡ true)
-    unfolding testCall workCall refusedBy
-    taken = let passed = all-passed F p C row block (bothSized out squarings) none in (passed .1, passed .2)
+    unfolding workCall partTests refusedBy
+    taken =
+        let sizes = passes 0 _ _ none in
+        let t = ticket-passed (limitsOf F) p C row block [] (sizes .1) in
+        (t .0, t .1)
 
     -- it left the bytes of the part's sum, and of its squarings
     pub wrote : (bytesOf 16 (partSum F part p C row block) ≡ bytesLeft (workCall F part p C row block out squarings) 0)

@@ -6,6 +6,7 @@ pub mod OneTotal
 pub mod EveryTerm
 pub mod Figures
 pub mod FirstDigits
+pub mod RoundTrip
 pub mod Agreement
 pub mod Halves
 pub mod Looks

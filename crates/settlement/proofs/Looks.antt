@@ -1,6 +1,6 @@
 -- Looks and the other calls, for any formula whose positions fit 8 bytes.
 -- Assumes nothing.
-use mathlib.Core.Path.{_≡_, refl, sym, ap, ap₂, _∙_}
+use mathlib.Core.Path.{_≡_, refl, sym, ap, _∙_}
 use mathlib.Core.Bool.{Bool, true, false, cond, not}
 use mathlib.Core.List.{List, [], _∷_}
 use Prim.Native.Nat.{ℕ, _^_, _<_}
@@ -9,7 +9,9 @@ use borrow.Author.Tests.{eqb-true}
 use lib.Dec.{eqb, lit<}
 use lib.IntN.{ℤ, pos, negℤ}
 use lib.ListN.{length}
+use Rattle.algebra.specs.Machine.{leaves, answers}
 use Rattle.algebra.specs.Sum.{sum}
+use Rattle.algebra.proofs.Machines.{agree}
 use Rattle.algebra.specs.Test.{allBelow}
 use Rattle.words.specs.Bytes.{bytesOf, valueOf, field, AllBytes}
 use Rattle.series.specs.Series.{Formula}
@@ -21,25 +23,25 @@ use Rattle.run.proofs.Answering.{negated, refused-by}
 use Rattle.run.specs.Call.{answered, bytesLeft, refusedBy, allLeft}
 use Rattle.ledger.specs.Ledger.{View, totalOf, totalIn, fresh}
 use Rattle.ledger.specs.Plain.{Plain, plainView, encode, opened, admit, including, adding}
-use Rattle.ledger.proofs.Image.{Good, view-encode, total-encode, fresh-encode}
+use Rattle.ledger.proofs.Image.{Good, view-encode, total-encode}
+use Rattle.sheet.specs.Tests.{sheetSized}
 use Rattle.sheet.specs.Sheet.{sheetPos, sheetBlocks, sheetCount, rowIn, blockIn, sumIn, entriesFrom, entries, every, ascending, wellFormed, contentsOf, bodiesOf, sheetOf}
-use Rattle.sheet.specs.Calls.{sheetRefusal}
-use Rattle.sheet.specs.Posts.{postsBytes}
-use Rattle.posting.specs.Calls.{sheetPostCall}
-use Rattle.posting.specs.Posts.{sheet, postRefusal, postEntries, postBytes, plainAnswer, plainPost}
-use Rattle.posting.proofs.Simulation.{good-opened, step, post-answers}
-use Rattle.look.specs.Look.{unmarkedOf, unmarkedIn, lookRefusal, lookCall}
-use Rattle.look.proofs.Posted.{all-in, leaves}
+use Rattle.posting.specs.Posts.{sheet, postRefusal, postEntries, postBytes, plainAnswer, plainPost, onBytes}
+use Rattle.posting.specs.Calls.{sheetTests, sheetPostCall}
+use Rattle.posting.proofs.Simulation.{step, post-answers, Holds, one-post, fresh-holds}
+use Rattle.look.specs.Look.{unmarkedOf, unmarkedIn, lookTests, lookCall}
+use Rattle.look.proofs.Posted.{all-in, post-leaves}
 use Rattle.look.proofs.AsPosting.{looks-as-posted}
 use Rattle.look.proofs.Unmarked.{all-less-marks, none-left}
 use Rattle.closing.specs.Closing.{settledAt, closeBy, closeCall}
 use Rattle.closing.proofs.Encoded.{answer-encoded}
-use Rattle.settlement.specs.Looks.{Step, posting, looking, Outcome, outcome, stepOutcome, stepBytes, plainOutcome, plainStep, stepsBytes, outcomes, plainOutcomes, postsAmong, Looks, someSteps, LooksTaken}
+use Rattle.settlement.specs.Looks.{Step, posting, looking, outcome, stepOutcome, stepBytes, plainOutcome, plainStep, stepsOnBytes, stepsOnPlain, postsAmong, Looks, someSteps, LooksTaken}
 
 -- ---- looks among posts
 
-unseen : (lim : Limits) (ledger : List ℕ) (steps : List Step) → stepsBytes lim ledger steps ≡ postsBytes lim ledger (postsAmong steps)
-unfolding stepsBytes stepBytes postsAmong postsBytes
+unseen : (lim : Limits) (ledger : List ℕ) (steps : List Step)
+    → leaves (stepsOnBytes lim) ledger steps ≡ leaves (onBytes lim) ledger (postsAmong steps)
+unfolding leaves stepBytes postsAmong
 unseen lim ledger [] = refl
 unseen lim ledger (posting a ∷ steps) = unseen lim (postBytes lim ledger a) steps
 unseen lim ledger (looking s total ∷ steps) = unseen lim ledger steps
@@ -47,26 +49,24 @@ unseen lim ledger (looking s total ∷ steps) = unseen lim ledger steps
 module _ (lim : Limits) where
   -- one step: the look sees the plain ledger, and so does the post whose bytes it counts in
   step-outcome : (plain : Plain) (a : Step) → Good lim plain → stepOutcome lim (encode lim plain) a ≡ plainOutcome lim plain a
-  unfolding stepOutcome plainOutcome lookCall refusedBy answered lookRefusal allLeft postBytes
+  unfolding stepOutcome plainOutcome lookCall refusedBy answered allLeft postBytes
   step-outcome plain (posting a) g = ap (λ (z : ℤ). outcome z []) (post-answers lim plain a g)
   step-outcome plain (looking s total) g =
       let left = plainPost lim plain (sheet s) in
       let h = step lim plain (sheet s) g in
       let seen = view-encode lim plain g in
-      let n = ap (λ (v : View). lookRefusal lim v s total) seen in
+      let n = ap (λ (v : View). refusal (lookTests lim v s total)) seen in
       let count = ap (unmarkedIn lim) (h .0) ∙ ap (unmarkedOf lim) (view-encode lim left (h .1)) in
       let sum = ap (totalIn lim) (h .0) ∙ total-encode lim left (h .1) in
       rw (n, count, sum) refl
 
-  all-outcomes : (plain : Plain) (steps : List Step) → Good lim plain → outcomes lim (encode lim plain) steps ≡ plainOutcomes lim plain steps
-  unfolding outcomes plainOutcomes stepBytes plainStep
-  all-outcomes plain [] g = refl
-  all-outcomes plain (posting a ∷ steps) g =
-      let h = step lim plain a g in
-      ap₂ (λ (o : Outcome) (l : List Outcome). o ∷ l) (step-outcome plain (posting a) g)
-      (ap (λ (b : List ℕ). outcomes lim b steps) (h .0) ∙ all-outcomes (plainPost lim plain a) steps (h .1))
-  all-outcomes plain (looking s total ∷ steps) g =
-      ap₂ (λ (o : Outcome) (l : List Outcome). o ∷ l) (step-outcome plain (looking s total) g) (all-outcomes plain steps g)
+  one-step : (b : List ℕ) (plain : Plain) (a : Step) → Holds lim b plain
+      → (stepOutcome lim b a ≡ plainOutcome lim plain a) × Holds lim (stepBytes lim b a) (plainStep lim plain a)
+  unfolding stepBytes plainStep
+  one-step b plain (posting a) h =
+      (ap (λ (l : List ℕ). stepOutcome lim l (posting a)) (h .0) ∙ step-outcome plain (posting a) (h .1), one-post lim b plain a h .1)
+  one-step b plain (looking s total) h =
+      (ap (λ (l : List ℕ). stepOutcome lim l (looking s total)) (h .0) ∙ step-outcome plain (looking s total) (h .1), h)
 
 -- ---- 0 where the run is full
 
@@ -87,13 +87,13 @@ module _ (F : Formula) (fits : F .last < 2 ^ 64) (ledger s total digits : List �
 
   rest-is : rest ≡ unmarkedOf lim (plainView remains)
   rest-is =
-      let l = leaves lim fits ledger s bytes taken in
+      let l = post-leaves lim fits ledger s bytes taken in
       ap (unmarkedIn lim) (l .0) ∙ ap (unmarkedOf lim) (view-encode lim remains (l .1))
 
   closes : answered (closeCall F (bytesLeft (sheetPostCall lim ledger s) 0) digits) ≡ answer (cond (not (eqb rest 0)) 8 (cond (eqb d 0) 9 0)) d
   unfolding closeBy answered refusedBy refusal plainView
   closes =
-      let l = leaves lim fits ledger s bytes taken in
+      let l = post-leaves lim fits ledger s bytes taken in
       let full = sym (none-left lim (plainView remains)) ∙ ap (λ (n : ℕ). eqb n 0) (sym rest-is) in
       ap (λ (b : List ℕ). answered (closeCall F b digits)) (l .0) ∙ answer-encoded F remains (l .1) digits ∙ rw (wide, full) refl
 
@@ -128,10 +128,10 @@ module _ (F : Formula) (fits : F .last < 2 ^ 64) (ledger s total digits : List �
 
 module _ (F : Formula) (fits : F .last < 2 ^ 64) where
   as-plain : (p C : ℕ) → inRange (limitsOf F) p C ≡ true → (steps : List Step)
-      → outcomes (limitsOf F) (fresh (limitsOf F) p C) steps ≡ plainOutcomes (limitsOf F) (opened p C) steps
+      → answers (stepsOnBytes (limitsOf F)) (fresh (limitsOf F) p C) steps ≡ answers (stepsOnPlain (limitsOf F)) (opened p C) steps
   as-plain p C range steps =
-      ap (λ (b : List ℕ). outcomes (limitsOf F) b steps) (fresh-encode (limitsOf F) p C)
-      ∙ all-outcomes (limitsOf F) (opened p C) steps (good-opened (limitsOf F) p C fits range)
+      let lim = limitsOf F in
+      agree (stepsOnBytes lim) (stepsOnPlain lim) (Holds lim) (one-step lim) (fresh lim p C) (opened p C) (fresh-holds lim p C fits range) steps .0
 
   pub looks-hold : Looks F
   looks-hold = record {
@@ -144,5 +144,5 @@ module _ (F : Formula) (fits : F .last < 2 ^ 64) where
 
 -- by computation on the plain ledger
 pub looks-taken : LooksTaken
-unfolding plainOutcomes plainOutcome plainStep plainAnswer plainPost plainView postRefusal postEntries opened admit including adding lookRefusal sheetRefusal refusal answer inRange isTicket unmarkedOf totalOf sum allBelow wellFormed ascending every entries entriesFrom sheetCount sheetPos sheetBlocks rowIn blockIn sumIn field valueOf sheetOf contentsOf bodiesOf bytesOf
+unfolding answers plainOutcome plainStep plainAnswer plainPost plainView postRefusal postEntries opened admit including adding lookTests sheetTests sheetSized refusal answer inRange isTicket unmarkedOf totalOf sum allBelow wellFormed ascending every entries entriesFrom sheetCount sheetPos sheetBlocks rowIn blockIn sumIn field valueOf sheetOf contentsOf bodiesOf bytesOf
 looks-taken = as-plain bellard (lit< tt) 1 1 refl someSteps

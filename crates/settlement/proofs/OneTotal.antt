@@ -7,7 +7,8 @@ use mathlib.Core.List.{List, [], _∷_, foldl}
 use Prim.Native.Nat.{ℕ, _%_, _^_, _<_}
 use borrow.Author.Tests.{eqb-true}
 use lib.Dec.{eqb}
-use lib.IntN.{ℤ}
+use Rattle.algebra.specs.Machine.{leaves, answers}
+use Rattle.algebra.proofs.Machines.{agree}
 use Rattle.algebra.proofs.Sums.{sum-zero}
 use Rattle.series.specs.Series.{Formula, modulus}
 use Rattle.interval.specs.Interval.{isCharged}
@@ -19,13 +20,11 @@ use Rattle.ledger.specs.Ledger.{View, viewOf, ledgerSize, totalOf, totalIn}
 use Rattle.ledger.specs.Plain.{Plain, plainView, opened, admit, including}
 use Rattle.ledger.proofs.RowSums.{total-adding}
 use Rattle.ledger.proofs.Image.{total-encode}
-use Rattle.sheet.specs.Posts.{plainPosts, plainAnswers}
-use Rattle.sheet.proofs.Simulation.{posts-good, ledger-is, answers-are}
-use Rattle.posting.specs.Posts.{Post, postRefusal, postEntries, plainPost, plainAnswer}
-use Rattle.posting.proofs.Simulation.{Ready, good-opened, post-ready}
+use Rattle.posting.specs.Posts.{Post, postRefusal, postEntries, plainPost, plainAnswer, onPlain, plainAfter, plainAnswersTo}
+use Rattle.posting.proofs.Simulation.{Ready, post-ready, after-fresh}
 use Rattle.closing.specs.Closing.{closeBy, closeCall}
 use Rattle.closing.proofs.Encoded.{answer-encoded, bytes-encoded}
-use Rattle.settlement.specs.OneTotal.{OneTotal, oneOpened, oneView, oneAdmit, onePost, onePosts, oneAnswers, oneCloseAnswer, oneCloseBytes, SameAsOne, SameTotal, AsBefore}
+use Rattle.settlement.specs.OneTotal.{OneTotal, oneOpened, oneView, oneAdmit, onePost, oneAnswer, onOneTotal, oneCloseAnswer, oneCloseBytes, SameAsOne, SameTotal, AsBefore}
 
 -- ---- the ledger with row sums, seen as one with a total
 
@@ -61,17 +60,18 @@ module _ (lim : Limits) where
       go true e = as-all s (postEntries a) (post-ready lim s a (eqb-true _ _ e))
       go false e = refl
 
-  as-posts : (s : Plain) (posts : List Post) → asOne lim (plainPosts lim s posts) ≡ onePosts lim (asOne lim s) posts
-  unfolding plainPosts onePosts
-  as-posts s [] = refl
-  as-posts s (a ∷ posts) = as-posts (plainPost lim s a) posts ∙ ap (λ (o : OneTotal). onePosts lim o posts) (as-post s a)
+  -- the two machines agree at each step
+  as-answer : (s : Plain) (a : Post) → plainAnswer lim s a ≡ oneAnswer lim (asOne lim s) a
+  unfolding plainAnswer oneAnswer
+  as-answer s a = ap (λ (v : View). answer (postRefusal lim v a) 0) (sym (same-view s))
 
-  as-answers : (s : Plain) (posts : List Post) → plainAnswers lim s posts ≡ oneAnswers lim (asOne lim s) posts
-  unfolding plainAnswers plainAnswer oneAnswers
-  as-answers s [] = refl
-  as-answers s (a ∷ posts) =
-      ap₂ (λ (x : ℤ) (l : List ℤ). x ∷ l) (ap (λ (v : View). answer (postRefusal lim v a) 0) (sym (same-view s)))
-      (as-answers (plainPost lim s a) posts ∙ ap (λ (o : OneTotal). oneAnswers lim o posts) (as-post s a))
+  as-one : (p C : ℕ) (posts : List Post)
+      → (plainAnswersTo lim p C posts ≡ answers (onOneTotal lim) (oneOpened p C) posts)
+      × (asOne lim (plainAfter lim p C posts) ≡ leaves (onOneTotal lim) (oneOpened p C) posts)
+  as-one p C =
+      agree (onPlain lim) (onOneTotal lim) (λ s o. asOne lim s ≡ o)
+      (λ s o a e. (as-answer s a ∙ ap (λ (x : OneTotal). oneAnswer lim x a) e, as-post s a ∙ ap (λ (x : OneTotal). onePost lim x a) e))
+      (opened p C) (oneOpened p C) (as-opened p C)
 
 -- ---- as before
 
@@ -90,15 +90,15 @@ module _ (F : Formula) (fits : F .last < 2 ^ 64) where
   unfolding asOne
   same-as-one p C range posts =
       let lim = limitsOf F in
-      let s = plainPosts lim (opened p C) posts in
-      let good = posts-good lim (opened p C) posts (good-opened lim p C fits range) in
-      let final = ledger-is lim p C fits range posts in
-      let one : asOne lim s ≡ onePosts lim (oneOpened p C) posts =
-      as-posts lim (opened p C) posts ∙ ap (λ (o : OneTotal). onePosts lim o posts) (as-opened lim p C) in
+      let s = plainAfter lim p C posts in
+      let after = after-fresh lim p C fits range posts in
+      let final = after .1 .0 in
+      let good = after .1 .1 in
+      let same = as-one lim p C posts in
+      let one = same .1 in
       record {
         total = ap (totalIn lim) final ∙ total-encode lim s good ∙ ap (λ (o : OneTotal). o .total) one;
-        answers =
-            answers-are lim p C fits range posts ∙ as-answers lim (opened p C) posts ∙ ap (λ (o : OneTotal). oneAnswers lim o posts) (as-opened lim p C);
+        answers = after .0 ∙ same .0;
         closing = λ digits. (
           ap (λ (l : List ℕ). answered (closeCall F l digits)) final ∙ answer-encoded F s good digits
               ∙ ap (λ (v : View). answered (closeBy isCharged F v (totalOf lim (s .sums)) digits)) (sym (same-view lim s)) ∙ ap (λ (o : OneTotal). oneCloseAnswer F o digits) one,

@@ -1,40 +1,43 @@
 -- What the writer writes, the reader takes and gives back; and an accepted sheet with right sums is what the writer writes.
 -- Assumes nothing.
 use mathlib.Core.Path.{_≡_, refl, sym, ap, ap₂, _∙_, subst}
-use mathlib.Core.Bool.{Bool, true, _&&_, _||_}
-use mathlib.Core.List.{List, List·Memᴰ}
+use mathlib.Core.Bool.{Bool, true, _&&_}
+use mathlib.Core.List.{List, [], List·Memᴰ}
 use Prim.Native.Nat.{ℕ, _+_, _*_, _/_, _^_, _<_, _≤_}
 use native.Mathlib.Nat.{le-refl}
 use native.Mathlib.Omega.{arith}
-use borrow.Author.Tests.{ltb-false, eqb-true, le-ltb, not-false}
-use lib.Dec.{ltb, eqb}
+use borrow.Author.Tests.{eqb-true, le-leb}
+use lib.Dec.{eqb}
 use lib.IntN.{pos}
 use lib.ListN.{length, getD, take, drop, replicate, length-replicate}
 use lib.Seq.{take-at, drop-at}
 use Rattle.algebra.specs.Test.{allBelow}
-use Rattle.algebra.proofs.Booleans.{and-left, and-right, neither}
+use Rattle.algebra.proofs.Booleans.{and-left, and-right}
 use Rattle.algebra.proofs.Below.{all-at}
 use Rattle.words.specs.Bytes.{field, AllBytes}
 use Rattle.series.specs.Series.{Formula}
 use Rattle.run.specs.Refusal.{refusal, answer}
-use Rattle.run.specs.Run.{Limits, limitsOf, inRange, ticketSum, Entry}
+use Rattle.run.specs.Run.{Entry, Limits, limitsOf, ticketSum}
 use Rattle.run.proofs.Answering as answering
-use Rattle.run.proofs.Answering.{passes}
 use Rattle.run.proofs.Range.{range-of}
+use Rattle.run.proofs.Testing.{passed}
 use Rattle.run.specs.Call.{answered, bytesLeft, refusedBy, allLeft}
+use Rattle.sheet.specs.Sheet.{sheetLength, sheetMost, sheetPos, sheetBlocks, sheetCount, entries, allTickets, ascending, wellFormed, sheetOf, listOf, listed}
+use Rattle.sheet.specs.Tests.{sheetSized}
+use Rattle.sheet.specs.Calls.{over, readTests, readCall, writeCall}
+use Rattle.sheet.proofs.Form.{formed, sheet-fits, SheetPassed, sheet-passed}
+use Rattle.sheet.proofs.Many.{count-entries, count-listed}
+use Rattle.sheet.proofs.Sheets.{Fitting, pos-read, blocks-read, count-read, entries-read, sheet-again}
+use Rattle.sheet.proofs.Again.{length-sheet, length-list, list-again, listed-again, fitting, written-formed, listed-right}
+use Rattle.sheet.proofs.Writable.{Writable, writable, not-refused}
 use Rattle.ledger.specs.Ledger.{View, viewOf}
-use Rattle.sheet.specs.Sheet.{sheetLength, sheetMost, sheetPos, sheetBlocks, sheetCount, entries, allTickets, ascending, wellFormed, sheetOf, listOf, listed}
-use Rattle.sheet.specs.Calls.{over, sheetRefusal, readCall, writeCall}
-use Rattle.sheet.proofs.Many.{count-entries, count-listed}
-use Rattle.sheet.proofs.Sheets.{Fitting, pos-read, blocks-read, count-read, entries-read, sheet-again}
-use Rattle.sheet.proofs.Form.{formed}
-use Rattle.posting.specs.Calls.{sheetPostCall}
+use Rattle.posting.specs.Calls.{sheetTests, sheetPostCall}
 use Rattle.posting.proofs.Testing.{sheet-taken}
 use Rattle.settlement.specs.RoundTrip.{Fits, ReadsBack, WrittenReadsBack, Accepted, by-reading, by-posting, RightSums, AcceptedIsWritten}
 
 -- ---- written, then read
 
-module _ (F : Formula) (fits : Fits F) (p C : ℕ) (list out list′ sums′ : List ℕ) (bytes : AllBytes list) (t : Taken F p C list out)
+module _ (F : Formula) (fits : Fits F) (p C : ℕ) (list out list′ sums′ : List ℕ) (bytes : AllBytes list) (t : Writable F p C list out)
     (room-list : length list ≤ length list′) (room-sums : 8 * length list ≤ length sums′) where
   ts : List Entry
   ts = listed F p C list
@@ -70,19 +73,19 @@ module _ (F : Formula) (fits : Fits F) (p C : ℕ) (list out list′ sums′ : L
   unfolding s
   entries-are = entries-read p C ts p-fits C-fits few entries-fit
 
-  not-refused : refusedBy (readCall (limitsOf F) s list′ sums′) ≡ 0
-  unfolding readCall refusedBy refusal s ts
-  not-refused =
+  reads : refusedBy (readCall (limitsOf F) s list′ sums′) ≡ 0
+  unfolding readCall readTests sheetSized refusedBy refusal s ts
+  reads =
       let len : length s ≡ sheetLength (length list / 2) = length-sheet p C ts ∙ ap sheetLength count in
       let h = t .short in
       let ev = t .even in
       rw (
         len,
         count-is,
-        le-ltb (sheetLength (length list / 2)) 16 (omega arith),
-        le-ltb (sheetMost (limitsOf F)) (sheetLength (length list / 2)) (omega (arith, h)),
-        le-ltb (length list′) (2 * (length list / 2)) (omega (arith, ev)),
-        le-ltb (length sums′) (16 * (length list / 2)) (omega (arith, ev)),
+        le-leb 16 (sheetLength (length list / 2)) (omega arith),
+        le-leb (sheetLength (length list / 2)) (sheetMost (limitsOf F)) (omega (arith, h)),
+        le-leb (2 * (length list / 2)) (length list′) (omega (arith, ev)),
+        le-leb (16 * (length list / 2)) (length sums′) (omega (arith, ev)),
         pos-read p C ts p-fits C-fits few entries-fit,
         blocks-read p C ts p-fits C-fits few entries-fit,
         t .range,
@@ -94,9 +97,9 @@ module _ (F : Formula) (fits : Fits F) (p C : ℕ) (list out list′ sums′ : L
   reads-back : ReadsBack F p C list (sheetOf p C (listed F p C list)) list′ sums′
   unfolding readCall answered allLeft answer ts s
   reads-back = record {
-    count = rw (not-refused, count-is) refl;
-    list-is = rw (not-refused, entries-are, list-again F p C list bytes (t .even)) refl;
-    sums-are = rw (not-refused, entries-are) refl;
+    count = rw (reads, count-is) refl;
+    list-is = rw (reads, entries-are, list-again F p C list bytes (t .even)) refl;
+    sums-are = rw (reads, entries-are) refl;
     pos-is = pos-read p C ts p-fits C-fits few entries-fit;
     blocks-are = blocks-read p C ts p-fits C-fits few entries-fit;
   }
@@ -113,7 +116,7 @@ written-reads-back F fits p C list out bytes n e =
     let z = answering.not-refused (refusedBy (writeCall F p C list out)) (sheetLength (length list / 2)) n e in
     let s = sheetOf p C (listed F p C list) in
     let l : length s ≡ n = length-sheet p C (listed F p C list) ∙ ap sheetLength (count-listed F p C list) ∙ z .1 in
-    let t = taken-of F p C list out (z .0) in
+    let t = writable F p C list out (z .0) in
     let bytes-are : bytesLeft (writeCall F p C list out) 0 ≡ over s out = rw (z .0) refl in
     let sheet-is : s ≡ take n (bytesLeft (writeCall F p C list out) 0) = sym (ap (take n) bytes-are ∙ take-at s (drop (length s) out) n l) in
     let zeros : List ℕ = replicate (8 * length list) 0 in
@@ -132,11 +135,8 @@ written-reads-back F fits p C list out bytes n e =
 
 -- what the reader and a post have both tested: refusals 1 to 4 do not apply to the bytes of the sheet
 record Passed (lim : Limits) (s : List ℕ) : Type 0 where
-  size-low : 16 ≤ length s
-  size-high : length s ≤ sheetMost lim
-  range : inRange lim (sheetPos s) (sheetBlocks s) ≡ true
-  formed : wellFormed s ≡ true
-  tickets : allTickets lim (sheetBlocks s) (entries s) ≡ true
+  short : length s ≤ sheetMost lim
+  form : SheetPassed lim s
 
 module _ (F : Formula) (fits : Fits F) (s out : List ℕ) (bytes : AllBytes s) (acc : Passed (limitsOf F) s) (right : RightSums F s)
     (room : length s ≤ length out) where
@@ -147,7 +147,7 @@ module _ (F : Formula) (fits : Fits F) (s out : List ℕ) (bytes : AllBytes s) (
 
   tests-hold : tested ≡ true
   unfolding tested wellFormed
-  tests-hold = and-left tested (ascending (entries s)) (acc .formed)
+  tests-hold = and-left tested (ascending (entries s)) (acc .form .well-formed)
 
   length-is : length s ≡ sheetLength (sheetCount s)
   unfolding tested
@@ -167,7 +167,7 @@ module _ (F : Formula) (fits : Fits F) (s out : List ℕ) (bytes : AllBytes s) (
   unfolding RightSums
   listed-are =
       listed-again F (sheetPos s) (sheetBlocks s) (entries s) (fits .few)
-      (range-of (limitsOf F) (sheetPos s) (sheetBlocks s) (acc .range) .C-high) (acc .tickets) right
+      (range-of (limitsOf F) (sheetPos s) (sheetBlocks s) (acc .form .range) .C-high) (acc .form .tickets) right
 
   list-length : length (listOf (entries s)) ≡ 2 * sheetCount s
   unfolding entries
@@ -176,57 +176,43 @@ module _ (F : Formula) (fits : Fits F) (s out : List ℕ) (bytes : AllBytes s) (
   half : length (listOf (entries s)) / 2 ≡ sheetCount s
   half = let h = list-length in omega (arith, h)
 
-  taken : Taken F (sheetPos s) (sheetBlocks s) (listOf (entries s)) out
+  taken : Writable F (sheetPos s) (sheetBlocks s) (listOf (entries s)) out
   taken =
       let h = list-length in
       let l = length-is in
-      let m = acc .size-high in
+      let m = acc .short in
       record {
         even = omega (arith, h);
         short = omega (arith, h, l, m);
         room = rw half (omega (arith, l, room));
-        range = acc .range;
-        ascends = ap ascending listed-are ∙ formed s (acc .formed);
-        tickets = ap (allTickets (limitsOf F) (sheetBlocks s)) listed-are ∙ acc .tickets;
+        range = acc .form .range;
+        ascends = ap ascending listed-are ∙ formed s (acc .form .well-formed);
+        tickets = ap (allTickets (limitsOf F) (sheetBlocks s)) listed-are ∙ acc .form .tickets;
       }
 
   is-written : (answered (writeCall F (sheetPos s) (sheetBlocks s) (listOf (entries s)) out) ≡ pos (length s))
       × (bytesLeft (writeCall F (sheetPos s) (sheetBlocks s) (listOf (entries s)) out) 0 ≡ over s out)
   unfolding writeCall answered allLeft answer
   is-written = (
-    rw (of-taken F (sheetPos s) (sheetBlocks s) (listOf (entries s)) out taken, half) (ap pos (sym length-is)),
-    rw (of-taken F (sheetPos s) (sheetBlocks s) (listOf (entries s)) out taken, listed-are, again) refl,
+    rw (not-refused F (sheetPos s) (sheetBlocks s) (listOf (entries s)) out taken, half) (ap pos (sym length-is)),
+    rw (not-refused F (sheetPos s) (sheetBlocks s) (listOf (entries s)) out taken, listed-are, again) refl,
   )
 
 -- ---- what the reader takes, and what a post takes
 
 read-passed : (lim : Limits) (s list sums : List ℕ) → refusedBy (readCall lim s list sums) ≡ 0 → Passed lim s
-unfolding readCall refusedBy
+unfolding readCall readTests refusedBy
 read-passed lim s list sums e =
-    let e₁ = passes 0 _ _ e in
-    let e₂ = passes 1 _ _ (e₁ .1) in
-    let e₃ = passes 2 _ _ (e₂ .1) in
-    let e₄ = passes 3 _ _ (e₃ .1) in
-    let c = neither (ltb (length s) 16 || ltb (sheetMost lim) (length s) || ltb (length list) (2 * sheetCount s)) _ (e₁ .0) in
-    let b = neither (ltb (length s) 16 || ltb (sheetMost lim) (length s)) _ (c .0) in
-    let a = neither (ltb (length s) 16) (ltb (sheetMost lim) (length s)) (b .0) in
-    record {
-      size-low = ltb-false (length s) 16 (a .0);
-      size-high = ltb-false (sheetMost lim) (length s) (a .1);
-      range = not-false _ (e₂ .0);
-      formed = not-false _ (e₃ .0);
-      tickets = not-false _ (e₄ .0);
-    }
+    let sizes = passed 0 _ _ e in
+    record { short = sheet-fits lim s (and-left (sheetSized lim s) _ (sizes .0)) .1; form = sheet-passed lim s [] (sizes .1) .0 }
 
-post-passed : (lim : Limits) (v : View) (s : List ℕ) → sheetRefusal lim v s ≡ 0 → Passed lim s
-post-passed lim v s e =
-    let t = sheet-taken lim v s e in
-    record { size-low = t .size-low; size-high = t .size-high; range = t .range; formed = t .well-formed; tickets = t .tickets }
+post-passed : (lim : Limits) (v : View) (s : List ℕ) → refusal (sheetTests lim v s) ≡ 0 → Passed lim s
+post-passed lim v s e = let t = sheet-taken lim v s e in record { short = sheet-fits lim s (t .sheet-sized) .1; form = t .form }
 
-passed : (lim : Limits) (s : List ℕ) → Accepted lim s → Passed lim s
-unfolding readCall answered sheetPostCall refusedBy sheetRefusal
-passed lim s (by-reading list sums e a) = read-passed lim s list sums (answering.not-refused _ _ e a .0)
-passed lim s (by-posting ledger a) = post-passed lim (viewOf lim ledger) s (answering.not-refused _ 0 0 a .0)
+was-passed : (lim : Limits) (s : List ℕ) → Accepted lim s → Passed lim s
+unfolding readCall answered sheetPostCall refusedBy
+was-passed lim s (by-reading list sums e a) = read-passed lim s list sums (answering.not-refused _ _ e a .0)
+was-passed lim s (by-posting ledger a) = post-passed lim (viewOf lim ledger) s (answering.not-refused _ 0 0 a .0)
 
 pub accepted-is-written : (F : Formula) → Fits F → AcceptedIsWritten F
-accepted-is-written F fits s out bytes acc right room = is-written F fits s out bytes (passed (limitsOf F) s acc) right room
+accepted-is-written F fits s out bytes acc right room = is-written F fits s out bytes (was-passed (limitsOf F) s acc) right room

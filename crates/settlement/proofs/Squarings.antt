@@ -35,7 +35,7 @@ use Rattle.run.specs.Call.{refusedBy, answered, allLeft, bytesLeft}
 use Rattle.run.proofs.Calls.{leaves, refuses}
 use Rattle.run.proofs.Range.{range-of, ticket-row, ticket-block}
 use Rattle.ticket.specs.Parts.{partFirst, partEnd, partCount, partSquarings}
-use Rattle.ticket.specs.Work.{isSized, bothSized, workCall, quoteCall}
+use Rattle.ticket.specs.Work.{partTests, isSized, bothSized, workCall, quoteCall}
 use Rattle.ticket.specs.declared.Part.{Part}
 use Rattle.ticket.specs.declared.Part.the-variants.{Whole, Lower, Upper}
 use Rattle.ticket.proofs.Parts.{ordered, meet}
@@ -96,7 +96,7 @@ module _ (F : Formula) (part : Part) (p C row block : ℕ) (out count : List ℕ
 
   wrong-size : (length out ≡ 16 → ⊥) ⊎ (length count ≡ 16 → ⊥) → (answered (workCall F part p C row block out count) ≡ negℤ (pos 1))
       × (bytesLeft (workCall F part p C row block out count) 0 ≡ out) × (bytesLeft (workCall F part p C row block out count) 1 ≡ count)
-  unfolding workCall refusedBy refusal
+  unfolding workCall partTests refusedBy refusal
   wrong-size h = let w = workCall F part p C row block out count in let r = refuses w 0 (rw (unsized h) refl) in (sym (r .0), sym (leaves w (r .1) 0), sym (leaves w (r .1) 1))
 
   -- a quote has the tests of working but for the sum's size
@@ -106,7 +106,7 @@ module _ (F : Formula) (part : Part) (p C row block : ℕ) (out count : List ℕ
 
   quoted : length out ≡ 16 → (answered (quoteCall F part p C row block count) ≡ answered (workCall F part p C row block out count))
       × (bytesLeft (quoteCall F part p C row block count) 0 ≡ bytesLeft (workCall F part p C row block out count) 1)
-  unfolding quoteCall workCall refusedBy answered allLeft
+  unfolding quoteCall workCall partTests refusedBy answered allLeft
   quoted h = rw (one-size h) (refl, refl)
 
 blocks : (F : Formula) (p C row : ℕ) → inRange (limitsOf F) p C ≡ true

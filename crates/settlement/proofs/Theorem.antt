@@ -27,10 +27,8 @@ use Rattle.ledger.specs.Ledger.{fresh, ledgerSize, totalOf}
 use Rattle.ledger.specs.Plain.{Plain, opened, plainView, encode}
 use Rattle.ledger.specs.Calls.{openCall}
 use Rattle.ledger.proofs.Image.{Good}
-use Rattle.sheet.specs.Posts.{postsBytes, plainPosts}
-use Rattle.sheet.proofs.Simulation.{posts-good, ledger-is, answers-are}
-use Rattle.posting.specs.Posts.{Post}
-use Rattle.posting.proofs.Simulation.{good-opened}
+use Rattle.posting.specs.Posts.{Post, ledgerAfter, plainAfter}
+use Rattle.posting.proofs.Simulation.{after-fresh}
 use Rattle.closing.specs.Closing.{lowOf, highOf, settledAt, digitsAt, closeBy, closeCall}
 use Rattle.closing.proofs.Encoded.{answer-encoded, bytes-encoded}
 use Rattle.settlement.specs.Settlement.{allSums, Closed, Settled, Demand3}
@@ -125,12 +123,12 @@ module _ (F : Formula) (fits : F .last < 2 ^ 64) (above : Positive F) (p C : ℕ
   unfolding lo hi bytes
   settlement posts =
       let lim = limitsOf F in
-      let s = plainPosts lim (opened p C) posts in
-      let g = posts-good lim (opened p C) posts (good-opened lim p C fits range) in
-      let final = ledger-is lim p C fits range posts in
+      let s = plainAfter lim p C posts in
+      let after = after-fresh lim p C fits range posts in
+      let final = after .1 .0 in
       record {
         opens = λ s h. opens-fresh s h;
-        answers = answers-are lim p C fits range posts;
+        answers = after .0;
         ledger = final;
         rows = filled-rows F p C fits range posts;
         total = filled-total F p C fits range posts;
@@ -139,10 +137,10 @@ module _ (F : Formula) (fits : F .last < 2 ^ 64) (above : Positive F) (p C : ℕ
             (sym (filled-total F p C fits range posts f)) all-near;
         closing = λ f out room.
             let k = kept-posts F p C (opened p C) posts (kept-opened F p C fits range) (f .right) in
-            subst (λ (t : ℕ). Closed F p (lowOf isCharged F p t) (highOf isCharged F p t) (postsBytes lim (fresh lim p C) posts) out)
+            subst (λ (t : ℕ). Closed F p (lowOf isCharged F p t) (highOf isCharged F p t) (ledgerAfter lim p C posts) out)
             (sym (filled-total F p C fits range posts f))
             (subst (λ (l : List ℕ). Closed F p lo hi l out) (sym final)
-            (closed s g (k .run-p) (filled-total F p C fits range posts f)
+            (closed s (after .1 .1) (k .run-p) (filled-total F p C fits range posts f)
             (λ row block h l. filled-all F p C fits range posts f row block (is-ticket lim C row block h (subst (λ (n : ℕ). block < n) (k .run-C) l)))
             out room));
       }

@@ -22,7 +22,7 @@ sideOf F side p C row block =
 
 -- What working a ticket of a run gives, with 16 bytes lent for the sum and 16 for the squarings: answer 0, and in the sum's bytes the one number
 -- below 2 ^ 128 that is the added terms less the subtracted ones modulo 2 ^ 128.
-pub record Worked (F : Formula) (p C row block : ℕ) (out squarings : List ℕ) : Type 0 where
+pub record WorkedRight (F : Formula) (p C row block : ℕ) (out squarings : List ℕ) : Type 0 where
   pub answers : answered (workCall F Whole p C row block out squarings) ≡ pos 0
   pub bytes-are : bytesLeft (workCall F Whole p C row block out squarings) 0 ≡ bytesOf 16 (ticketSum F p C row block)
   pub small : ticketSum F p C row block < modulus
@@ -31,7 +31,7 @@ pub record Worked (F : Formula) (p C row block : ℕ) (out squarings : List ℕ)
 -- Demand 2
 pub record Demand2 (F : Formula) : Type 0 where
   pub works : (p C row block : ℕ) (out squarings : List ℕ) → length out ≡ 16 → length squarings ≡ 16 → inRange (limitsOf F) p C ≡ true
-      → isTicket (limitsOf F) C row block ≡ true → Worked F p C row block out squarings
+      → isTicket (limitsOf F) C row block ≡ true → WorkedRight F p C row block out squarings
   -- a sheet written reads back as the same tickets and sums
   pub reads-back : WrittenReadsBack F
   -- one accepted with right sums is byte for byte the one written

@@ -3,6 +3,7 @@ pub mod Settlement
 pub mod OneTotal
 pub mod EveryTerm
 pub mod Figures
+pub mod RoundTrip
 pub mod Agreement
 pub mod Halves
 pub mod Looks

@@ -7,19 +7,19 @@ use Prim.Native.Nat.{ℕ, _-_, _^_}
 use lib.Dec.{eqb}
 use lib.IntN.{ℤ, pos, negℤ}
 use lib.ListN.{length, replicate}
+use Rattle.algebra.specs.Machine.{Machine, leaves, answers}
 use Rattle.words.specs.Bytes.{bytesOf, AllBytes}
 use Rattle.series.specs.Series.{Formula}
 use Rattle.series.specs.Bellard.{bellard}
-use Rattle.run.specs.Refusal.{answer}
+use Rattle.run.specs.Refusal.{refusal, answer}
 use Rattle.run.specs.Run.{Limits, limitsOf, inRange, Entry}
 use Rattle.run.specs.Call.{bytesLeft, answered}
 use Rattle.ledger.specs.Ledger.{totalOf, fresh}
 use Rattle.ledger.specs.Plain.{Plain, plainView, opened}
 use Rattle.sheet.specs.Sheet.{sheetOf}
-use Rattle.sheet.specs.Posts.{postsBytes}
+use Rattle.posting.specs.Posts.{Post, sheet, postAnswer, postBytes, plainAnswer, plainPost, onBytes}
 use Rattle.posting.specs.Calls.{sheetPostCall}
-use Rattle.posting.specs.Posts.{Post, sheet, postAnswer, postBytes, plainAnswer, plainPost}
-use Rattle.look.specs.Look.{unmarkedOf, lookRefusal, lookCall}
+use Rattle.look.specs.Look.{unmarkedOf, lookTests, lookCall}
 use Rattle.look.specs.AsPosting.{LooksAsPosted, AllLessMarks}
 use Rattle.closing.specs.Closing.{closeCall}
 
@@ -58,7 +58,7 @@ stepBytes lim ledger (looking s total) = ledger
 unfoldable pub plainOutcome : Limits → Plain → Step → Outcome
 plainOutcome lim plain (posting a) = outcome (plainAnswer lim plain a) []
 plainOutcome lim plain (looking s total) =
-    let n = lookRefusal lim (plainView plain) s total in
+    let n = refusal (lookTests lim (plainView plain) s total) in
     let left = plainPost lim plain (sheet s) in
     outcome (answer n (unmarkedOf lim (plainView left))) (cond (eqb n 0) (bytesOf 16 (totalOf lim (left .sums))) total)
 
@@ -66,18 +66,12 @@ unfoldable pub plainStep : Limits → Plain → Step → Plain
 plainStep lim plain (posting a) = plainPost lim plain a
 plainStep lim plain (looking s total) = plain
 
--- a list of steps, each on what the one before it left
-unfoldable pub stepsBytes : Limits → List ℕ → List Step → List ℕ
-stepsBytes lim ledger [] = ledger
-stepsBytes lim ledger (a ∷ steps) = stepsBytes lim (stepBytes lim ledger a) steps
+-- lists of steps: a machine on the bytes, and one on the plain ledger
+abbrev pub stepsOnBytes : Limits → Machine (List ℕ) Step Outcome
+stepsOnBytes lim = record { next = stepBytes lim; answer = stepOutcome lim }
 
-unfoldable pub outcomes : Limits → List ℕ → List Step → List Outcome
-outcomes lim ledger [] = []
-outcomes lim ledger (a ∷ steps) = stepOutcome lim ledger a ∷ outcomes lim (stepBytes lim ledger a) steps
-
-unfoldable pub plainOutcomes : Limits → Plain → List Step → List Outcome
-plainOutcomes lim plain [] = []
-plainOutcomes lim plain (a ∷ steps) = plainOutcome lim plain a ∷ plainOutcomes lim (plainStep lim plain a) steps
+abbrev pub stepsOnPlain : Limits → Machine Plain Step Outcome
+stepsOnPlain lim = record { next = plainStep lim; answer = plainOutcome lim }
 
 -- the posts alone
 unfoldable pub postsAmong : List Step → List Post
@@ -90,10 +84,10 @@ pub record Looks (F : Formula) : Type 0 where
   pub all-less-marks : AllLessMarks (limitsOf F)
   pub zero-where-full : ZeroWhereFull F
   -- the ledger after the steps, and so what any later call sees of it, is that of the posts alone
-  pub unseen : (ledger : List ℕ) (steps : List Step) → stepsBytes (limitsOf F) ledger steps ≡ postsBytes (limitsOf F) ledger (postsAmong steps)
+  pub unseen : (ledger : List ℕ) (steps : List Step) → leaves (stepsOnBytes (limitsOf F)) ledger steps ≡ leaves (onBytes (limitsOf F)) ledger (postsAmong steps)
   -- on a fresh ledger looks and posts alike answer as the plain ledger does
   pub as-plain : (p C : ℕ) → inRange (limitsOf F) p C ≡ true → (steps : List Step)
-      → outcomes (limitsOf F) (fresh (limitsOf F) p C) steps ≡ plainOutcomes (limitsOf F) (opened p C) steps
+      → answers (stepsOnBytes (limitsOf F)) (fresh (limitsOf F) p C) steps ≡ answers (stepsOnPlain (limitsOf F)) (opened p C) steps
 
 -- ---- looks that are taken, and one that is not: Bellard's run p = 1, C = 1
 
@@ -115,6 +109,6 @@ someSteps =
 
 abbrev pub LooksTaken : Type 0
 LooksTaken =
-    outcomes (limitsOf bellard) (fresh (limitsOf bellard) 1 1) someSteps
+    answers (stepsOnBytes (limitsOf bellard)) (fresh (limitsOf bellard) 1 1) someSteps
     ≡ outcome (pos 7) (bytesOf 16 0) ∷ outcome (pos 5) (bytesOf 16 2) ∷ outcome (pos 0) [] ∷ outcome (pos 5) (bytesOf 16 2)
     ∷ outcome (pos 0) (bytesOf 16 152) ∷ outcome (negℤ (pos 7)) (replicate 16 0) ∷ []

@@ -2,19 +2,19 @@
 -- with a sum for each row. Document 02, slip 1.
 use mathlib.Core.Path.{_≡_}
 use mathlib.Core.Bool.{Bool, true, false, cond}
-use mathlib.Core.List.{List, [], _∷_, foldl}
+use mathlib.Core.List.{List, foldl}
 use Prim.Native.Nat.{ℕ, _+_, _%_}
 use lib.Dec.{eqb}
 use lib.IntN.{ℤ}
+use Rattle.algebra.specs.Machine.{Machine, leaves, answers}
 use Rattle.series.specs.Series.{Formula, modulus}
 use Rattle.interval.specs.Interval.{isCharged}
 use Rattle.run.specs.Refusal.{answer}
 use Rattle.run.specs.Run.{Limits, limitsOf, inRange, Entry}
 use Rattle.run.specs.Call.{answered, bytesLeft}
-use Rattle.ledger.specs.Ledger.{View, fresh, posIn, blocksIn, totalIn, markIn}
+use Rattle.ledger.specs.Ledger.{View, posIn, blocksIn, totalIn, markIn}
 use Rattle.ledger.specs.Plain.{including}
-use Rattle.sheet.specs.Posts.{postsBytes, postsAnswers}
-use Rattle.posting.specs.Posts.{Post, postRefusal, postEntries}
+use Rattle.posting.specs.Posts.{Post, postRefusal, postEntries, ledgerAfter, answersTo}
 use Rattle.closing.specs.Closing.{Ordered, closeBy, closeCall}
 
 -- ---- the ledger with one total
@@ -42,14 +42,12 @@ oneAdmit s t = record { p = s .p; C = s .C; tickets = including t (s .tickets); 
 unfoldable pub onePost : Limits → OneTotal → Post → OneTotal
 onePost lim s a = cond (eqb (postRefusal lim (oneView s) a) 0) (foldl oneAdmit s (postEntries a)) s
 
--- a list of posts, each on what the one before it left
-unfoldable pub onePosts : Limits → OneTotal → List Post → OneTotal
-onePosts lim s [] = s
-onePosts lim s (a ∷ posts) = onePosts lim (onePost lim s a) posts
+unfoldable pub oneAnswer : Limits → OneTotal → Post → ℤ
+oneAnswer lim s a = answer (postRefusal lim (oneView s) a) 0
 
-unfoldable pub oneAnswers : Limits → OneTotal → List Post → List ℤ
-oneAnswers lim s [] = []
-oneAnswers lim s (a ∷ posts) = answer (postRefusal lim (oneView s) a) 0 ∷ oneAnswers lim (onePost lim s a) posts
+-- lists of posts: a machine
+abbrev pub onOneTotal : Limits → Machine OneTotal Post ℤ
+onOneTotal lim = record { next = onePost lim; answer = oneAnswer lim }
 
 -- closing it
 abbrev pub oneCloseAnswer : Formula → OneTotal → List ℕ → ℤ
@@ -62,11 +60,11 @@ oneCloseBytes F s digits = bytesLeft (closeBy isCharged F (oneView s) (s .total)
 
 -- Every list of posts on a fresh ledger, and the same list on the ledger with one total.
 pub record SameAsOne (F : Formula) (p C : ℕ) (posts : List Post) : Type 0 where
-  pub total : totalIn (limitsOf F) (postsBytes (limitsOf F) (fresh (limitsOf F) p C) posts) ≡ onePosts (limitsOf F) (oneOpened p C) posts .total
-  pub answers : postsAnswers (limitsOf F) (fresh (limitsOf F) p C) posts ≡ oneAnswers (limitsOf F) (oneOpened p C) posts
+  pub total : totalIn (limitsOf F) (ledgerAfter (limitsOf F) p C posts) ≡ leaves (onOneTotal (limitsOf F)) (oneOpened p C) posts .total
+  pub answers : answersTo (limitsOf F) p C posts ≡ answers (onOneTotal (limitsOf F)) (oneOpened p C) posts
   pub closing : (digits : List ℕ)
-      → (answered (closeCall F (postsBytes (limitsOf F) (fresh (limitsOf F) p C) posts) digits) ≡ oneCloseAnswer F (onePosts (limitsOf F) (oneOpened p C) posts) digits)
-      × (bytesLeft (closeCall F (postsBytes (limitsOf F) (fresh (limitsOf F) p C) posts) digits) 0 ≡ oneCloseBytes F (onePosts (limitsOf F) (oneOpened p C) posts) digits)
+      → (answered (closeCall F (ledgerAfter (limitsOf F) p C posts) digits) ≡ oneCloseAnswer F (leaves (onOneTotal (limitsOf F)) (oneOpened p C) posts) digits)
+      × (bytesLeft (closeCall F (ledgerAfter (limitsOf F) p C posts) digits) 0 ≡ oneCloseBytes F (leaves (onOneTotal (limitsOf F)) (oneOpened p C) posts) digits)
 
 -- Two ledgers in order with the same run, the same marks and the same total; the rows' sums may differ.
 pub record SameTotal (lim : Limits) (s t : List ℕ) : Type 0 where

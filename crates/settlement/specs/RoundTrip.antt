@@ -7,10 +7,10 @@ use lib.IntN.{pos}
 use lib.ListN.{length, take, drop}
 use Rattle.words.specs.Bytes.{AllBytes}
 use Rattle.series.specs.Series.{Formula, rowCount}
-use Rattle.run.specs.Run.{Limits, limitsOf, ticketSum, Entry}
+use Rattle.run.specs.Run.{Entry, Limits, limitsOf, ticketSum, Entry}
 use Rattle.run.specs.Call.{answered, bytesLeft}
 use Rattle.sheet.specs.Sheet.{sheetLength, sheetPos, sheetBlocks, entries, bodiesOf, listOf, listed}
 use Rattle.sheet.specs.Calls.{over, writeCall, readCall}
 use Rattle.posting.specs.Calls.{sheetPostCall}
 
 -- rows fit a byte, and positions 8 bytes

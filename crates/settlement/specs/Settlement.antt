@@ -17,8 +17,7 @@ use Rattle.run.specs.Call.{answered, bytesLeft}
 use Rattle.ledger.specs.Ledger.{fresh, ledgerSize, totalOf}
 use Rattle.ledger.specs.Plain.{opened, encode}
 use Rattle.ledger.specs.Calls.{openCall}
-use Rattle.sheet.specs.Posts.{postsBytes, postsAnswers, plainPosts, plainAnswers}
-use Rattle.posting.specs.Posts.{Post, occurrences, contains}
+use Rattle.posting.specs.Posts.{Post, ledgerAfter, answersTo, plainAfter, plainAnswersTo, occurrences, contains}
 use Rattle.closing.specs.Closing.{lowOf, highOf, closeCall}
 
 -- Each ticket of the run occurs in the list, and carries its right sum wherever it occurs.
@@ -38,7 +37,7 @@ allSums F p C = sum (λ row. sum (λ block. ticketSum F p C row block) 0 C) 0 (r
 
 -- the sums of the rows after the list of posts, and their total
 abbrev pub finalSums : Formula → ℕ → ℕ → List Post → ℕ → ℕ
-finalSums F p C posts = plainPosts (limitsOf F) (opened p C) posts .sums
+finalSums F p C posts = plainAfter (limitsOf F) p C posts .sums
 
 abbrev pub finalTotal : Formula → ℕ → ℕ → List Post → ℕ
 finalTotal F p C posts = totalOf (limitsOf F) (finalSums F p C posts)
@@ -62,8 +61,8 @@ pub record Settled (F : Formula) (p C : ℕ) (posts : List Post) : Type 0 where
   pub opens : (s : List ℕ) → length s ≡ ledgerSize (limitsOf F)
       → (answered (openCall (limitsOf F) p C s) ≡ pos 0) × (bytesLeft (openCall (limitsOf F) p C s) 0 ≡ fresh (limitsOf F) p C)
   -- the posts answer, and leave the ledger, as the plain ledger does
-  pub answers : postsAnswers (limitsOf F) (fresh (limitsOf F) p C) posts ≡ plainAnswers (limitsOf F) (opened p C) posts
-  pub ledger : postsBytes (limitsOf F) (fresh (limitsOf F) p C) posts ≡ encode (limitsOf F) (plainPosts (limitsOf F) (opened p C) posts)
+  pub answers : answersTo (limitsOf F) p C posts ≡ plainAnswersTo (limitsOf F) p C posts
+  pub ledger : ledgerAfter (limitsOf F) p C posts ≡ encode (limitsOf F) (plainAfter (limitsOf F) p C posts)
   -- in a filled run each row's sum is that of the row's tickets, one for each, and the total is the sum of all tickets
   pub rows : Filled F p C posts → (row : ℕ) → row < rowCount F → finalSums F p C posts row ≡ rowSums F p C row
   pub total : Filled F p C posts → finalTotal F p C posts ≡ allSums F p C
@@ -73,7 +72,7 @@ pub record Settled (F : Formula) (p C : ℕ) (posts : List Post) : Type 0 where
   -- and the closing of the ledger that the list left gives its digits
   pub closing : Filled F p C posts → (out : List ℕ) → length out ≡ 32
       → Closed F p (lowOf isCharged F p (finalTotal F p C posts)) (highOf isCharged F p (finalTotal F p C posts))
-      (postsBytes (limitsOf F) (fresh (limitsOf F) p C) posts) out
+      (ledgerAfter (limitsOf F) p C posts) out
 
 -- Demand 3, for a formula: every run, every list of posts
 abbrev pub Demand3 : Formula → Type 0
@@ -83,5 +82,5 @@ Demand3 F = (p C : ℕ) → inRange (limitsOf F) p C ≡ true → (posts : List 
 abbrev pub ClosesWith : Formula → ℕ → ℕ → List ℕ → Type 0
 ClosesWith F p d digits =
     (C : ℕ) → inRange (limitsOf F) p C ≡ true → (posts : List Post) → Filled F p C posts → (out : List ℕ) → length out ≡ 32
-    → (answered (closeCall F (postsBytes (limitsOf F) (fresh (limitsOf F) p C) posts) out) ≡ pos d)
-    × (bytesLeft (closeCall F (postsBytes (limitsOf F) (fresh (limitsOf F) p C) posts) out) 0 ≡ digits ++ drop d out)
+    → (answered (closeCall F (ledgerAfter (limitsOf F) p C posts) out) ≡ pos d)
+    × (bytesLeft (closeCall F (ledgerAfter (limitsOf F) p C posts) out) 0 ≡ digits ++ drop d out)

@@ -13,6 +13,7 @@ use lib.IntN.{ℤ, pos, negsuc, pos-ne-negsuc}
 use lib.ListN.{getD, drop, replicate}
 use lib.Pow.{pow-pos}
 use Rattle.algebra.specs.Bits.{bitsIn, bitLength}
+use Rattle.algebra.specs.Machine.{leaves, answers}
 use Rattle.algebra.specs.Sum.{sum}
 use Rattle.algebra.specs.Test.{allBelow}
 use Rattle.algebra.proofs.Booleans.{not-both}
@@ -37,21 +38,19 @@ use Rattle.ticket.specs.declared.Part.the-variants.{Whole, Lower, Upper}
 use Rattle.ledger.specs.Ledger.{fresh, enter, mark, addTo, rowSumIn, totalOf, viewOf, posIn, blocksIn, totalIn, bitIn, markIn, inOrder}
 use Rattle.ledger.specs.Plain.{Plain, opened, plainView, admit, including, adding, encode, fullPlain}
 use Rattle.ledger.proofs.Image.{Good, pos-encode, sum-encode}
-use Rattle.ledger.specs.Calls.{ticketRefusal, postCall}
+use Rattle.ledger.specs.Calls.{postTests, postCall}
 use Rattle.sheet.specs.Sheet.{sheetPos, sheetBlocks, sheetCount, rowIn, blockIn, sumIn, entriesFrom, entries, every, ascending, wellFormed, contentsOf, bodiesOf, sheetOf}
-use Rattle.sheet.specs.Calls.{sheetRefusal}
-use Rattle.sheet.specs.Posts.{postsBytes, plainPosts}
-use Rattle.sheet.proofs.Simulation.{posts-good}
-use Rattle.posting.specs.Calls.{sheetPostCall}
-use Rattle.posting.specs.Posts.{Post, ticket, postBytes, postRefusal, postEntries, plainPost}
-use Rattle.posting.proofs.Simulation.{good-opened}
-use Rattle.look.specs.Look.{unmarkedOf, unmarkedIn, lookRefusal, lookCall}
+use Rattle.sheet.specs.Tests.{sheetSized}
+use Rattle.posting.specs.Calls.{sheetTests, sheetPostCall}
+use Rattle.posting.specs.Posts.{ledgerAfter, plainAfter, Post, ticket, postBytes, postRefusal, postEntries, plainPost}
+use Rattle.posting.proofs.Simulation.{after-fresh}
+use Rattle.look.specs.Look.{unmarkedOf, unmarkedIn, lookTests, lookCall}
 use Rattle.closing.specs.Closing.{settledAt, digitsAt, closeBy, closeCall}
 use Rattle.closing.proofs.Closing.{nine-alone}
 use Rattle.closing.proofs.Encoded.{good-full, answer-by}
 use Rattle.settlement.specs.Settlement.{Filled, ClosesWith, rowSums, allSums}
 use Rattle.settlement.specs.Figures.{firstDigits, inRow}
-use Rattle.settlement.specs.Looks.{looking, Outcome, outcome, stepOutcome, stepBytes, plainOutcome, plainStep, outcomes, plainOutcomes, twoTickets}
+use Rattle.settlement.specs.Looks.{looking, Outcome, outcome, stepOutcome, stepBytes, plainOutcome, plainStep, twoTickets}
 use Rattle.settlement.specs.Squarings.{SquaringsAre, AllSquaringsAre}
 use Rattle.settlement.proofs.Runs.{runs}
 use Rattle.settlement.proofs.Filling.{kept-posts, kept-opened}
@@ -59,7 +58,7 @@ use Rattle.settlement.proofs.Figures.{spreads}
 use Rattle.settlement.proofs.Squarings.{squaring-figures-hold}
 use Rattle.settlement.proofs.Filler.{filled-exists}
 use Rattle.settlement.proofs.FirstDigits.{closes-with, first-digits}
-use Rattle.wrong_engines.specs.WrongEngines.{lim, AnswersAs, LeavesAs, ClosesAs, byRule, aboveZero, everyAdded, everySubtracted, sameDigits, WorksAs, oneSum, cutInBoth, cutInNeither, ownSigns, Way, byWorking, byQuoting, CountsAs, countedBy, rightOf, topBitToo, ofWholeE, inOneWord, ofWhole, RemainAs, TotalsAs, unmarkedNow, totalNow, LooksUntested, PostsAs, doesNothing, leftBy, fillEntry, fillsFirst, alwaysNine, nineUnseen, alwaysEight, madeUp, oneLess, byTotal, withoutRow, withoutCarry, wrongSize, wordBound, towardZero, settledTowardZero, Met, ShutOut}
+use Rattle.wrong_engines.specs.WrongEngines.{lim, AnswersAs, LeavesAs, ClosesAs, byRule, aboveZero, everyAdded, everySubtracted, sameDigits, WorksAs, oneSum, cutInBoth, cutInNeither, ownSigns, Way, byWorking, byQuoting, CountsAs, countedBy, rightOf, topBitToo, ofWholeE, inOneWord, ofWhole, RemainAs, TotalsAs, unmarkedNow, totalNow, LooksUntested, PostsAs, doesNothing, fillEntry, fillsFirst, alwaysNine, nineUnseen, alwaysEight, madeUp, oneLess, byTotal, withoutRow, withoutCarry, wrongSize, wordBound, towardZero, settledTowardZero, Met, ShutOut}
 
 -- 6A8885A308D313198A2E03707344A, the digits from position 5 on that a run settles
 abbrev fifthDigits : List ℕ
@@ -88,7 +87,7 @@ unfolding posts
 filled p = filled-exists bellard p 1 .1
 
 ledger : ℕ → List ℕ
-ledger p = postsBytes lim (fresh lim p 1) (posts p)
+ledger p = ledgerAfter lim p 1 (posts p)
 
 zeros : List ℕ
 zeros = replicate 32 0
@@ -175,11 +174,11 @@ one-set-of-digits w same =
 
 -- the plain ledger of the filled run
 filled-1 : Plain
-filled-1 = plainPosts lim (opened 1 1) (posts 1)
+filled-1 = plainAfter lim 1 1 (posts 1)
 
 good-1 : Good lim filled-1
 unfolding filled-1 inRange
-good-1 = posts-good lim (opened 1 1) (posts 1) (good-opened lim 1 1 (omega arith) refl)
+good-1 = after-fresh lim 1 1 (omega arith) refl (posts 1) .1 .1
 
 bytes-1 : ledger 1 ≡ encode lim filled-1
 unfolding ledger filled-1 inRange
@@ -394,7 +393,7 @@ looked : Outcome
 looked = stepOutcome lim (fresh lim 1 1) (looking twoTickets (replicate 16 0))
 
 looked-is : looked ≡ outcome (pos 5) (bytesOf 16 2)
-unfolding looked outcomes stepBytes plainOutcomes plainOutcome plainStep plainPost plainView postRefusal postEntries opened admit including adding lookRefusal sheetRefusal refusal answer inRange isTicket unmarkedOf totalOf sum allBelow wellFormed ascending every entries entriesFrom sheetCount sheetPos sheetBlocks rowIn blockIn sumIn field valueOf sheetOf contentsOf bodiesOf bytesOf
+unfolding looked answers stepBytes plainOutcome plainStep plainPost plainView postRefusal postEntries opened admit including adding lookTests sheetTests sheetSized refusal answer inRange isTicket unmarkedOf totalOf sum allBelow wellFormed ascending every entries entriesFrom sheetCount sheetPos sheetBlocks rowIn blockIn sumIn field valueOf sheetOf contentsOf bodiesOf bytesOf
 looked-is = ap (λ (l : List Outcome). getD l 0 (outcome (pos 0) [])) (runs .bellard-runs .looks .as-plain 1 1 refl (looking twoTickets (replicate 16 0) ∷ []))
 
 five-remain : answered (lookCall lim (fresh lim 1 1) twoTickets (replicate 16 0)) ≡ pos 5
@@ -426,14 +425,14 @@ one-post = ticket 1 1 0 0 (bytesOf 16 (ticketSum bellard 1 1 0 0)) ∷ []
 
 -- its mark is set
 does-nothing : PostsAs doesNothing → ⊥
-unfolding one-post leftBy postsBytes postBytes postCall refusedBy allLeft ticketRefusal refusal viewOf inOrder inRange isTicket allBelow posIn blocksIn markIn bitIn field valueOf fresh enter mark addTo rowSumIn bytesOf ticketSum rangeSum bound size termCount rowSum sum onSide isAdded residue
+unfolding one-post leaves postBytes postCall refusedBy allLeft postTests refusal viewOf inOrder inRange isTicket allBelow posIn blocksIn markIn bitIn field valueOf fresh enter mark addTo rowSumIn bytesOf ticketSum rangeSum bound size termCount rowSum sum onSide isAdded residue
 does-nothing same =
     let z : _≡_ {A = ℕ} 1 0 = ap (λ (l : List ℕ). getD l 128 0) (same 1 1 refl one-post) in
     omega (arith, z)
 
 -- the top byte of row 0's sum is that of its ticket's, 80 in hexadecimal, and not the 24 of the whole run's
 fills-first : PostsAs fillsFirst → ⊥
-unfolding one-post leftBy fillsFirst fillEntry postsBytes postBytes postCall refusedBy allLeft ticketRefusal postRefusal postEntries refusal viewOf inOrder inRange isTicket allBelow posIn blocksIn markIn bitIn field valueOf fresh enter mark addTo rowSumIn bytesOf allSums ticketSum rangeSum bound size termCount rowSum sum onSide isAdded residue
+unfolding one-post leaves fillsFirst fillEntry postBytes postCall refusedBy allLeft postTests postRefusal postEntries refusal viewOf inOrder inRange isTicket allBelow posIn blocksIn markIn bitIn field valueOf fresh enter mark addTo rowSumIn bytesOf allSums ticketSum rangeSum bound size termCount rowSum sum onSide isAdded residue
 fills-first same =
     let z : _≡_ {A = ℕ} 128 36 = ap (λ (l : List ℕ). getD l 31 0) (same 1 1 refl one-post) in
     omega (arith, z)
@@ -476,11 +475,6 @@ shut-out = record {
   rounded-toward-zero = (refl, refl);
 }
 
-posts-left : (s : List ℕ) (posts : List Post) → postsBytes lim s posts ≡ leftBy (postBytes lim) s posts
-unfolding postsBytes leftBy
-posts-left s [] = refl
-posts-left s (a ∷ posts) = posts-left (postBytes lim s a) posts
-
 look-is : (ledger s total : List ℕ) (n : ℕ) → answered (lookCall lim ledger s total) ≡ pos n
     → (n ≡ unmarkedIn lim (bytesLeft (sheetPostCall lim ledger s) 0)) × (bytesLeft (lookCall lim ledger s total) 0 ≡ bytesOf 16 (totalIn lim (bytesLeft (sheetPostCall lim ledger s) 0)))
 unfolding lookCall answered allLeft
@@ -499,5 +493,5 @@ met = record {
       left-squarings way part p C row block out count l m r t ∙ ap (bytesOf 16) (counted-rightly part p C row block);
   remain = λ ledger s total n e. look-is ledger s total n e .0;
   totals = λ ledger s total n e. look-is ledger s total n e .1;
-  posts = λ p C range posts. posts-left (fresh lim p C) posts;
+  posts = λ p C range posts. refl;
 }

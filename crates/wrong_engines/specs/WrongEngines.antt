@@ -9,6 +9,7 @@ use lib.Dec.{eqb, leb, ltb}
 use lib.IntN.{ℤ, pos, negsuc, negℤ, subℕ}
 use lib.ListN.{length, drop}
 use Rattle.algebra.specs.Bits.{bitLength}
+use Rattle.algebra.specs.Machine.{Machine, leaves}
 use Rattle.algebra.specs.Sum.{sum}
 use Rattle.algebra.specs.Test.{allBelow}
 use Rattle.algebra.specs.Whole.{residue, sameℤ}
@@ -25,8 +26,7 @@ use Rattle.ticket.specs.Work.{workCall, quoteCall}
 use Rattle.ticket.specs.declared.Part.{Part}
 use Rattle.ticket.specs.declared.Part.the-variants.{Whole, Lower, Upper}
 use Rattle.ledger.specs.Ledger.{ledgerSize, viewOf, posIn, blocksIn, rowSumIn, totalOf, totalIn, bitIn, inOrder, fresh, enter}
-use Rattle.sheet.specs.Posts.{postsBytes}
-use Rattle.posting.specs.Posts.{Post, postRefusal, postEntries, postBytes}
+use Rattle.posting.specs.Posts.{Post, postRefusal, postEntries, postAnswer, postBytes, ledgerAfter}
 use Rattle.posting.specs.Calls.{sheetPostCall}
 use Rattle.look.specs.Look.{unmarkedIn, lookCall}
 use Rattle.closing.specs.Closing.{lowOf, highOf, settledAt, closeBy, closeCall}
@@ -41,13 +41,13 @@ lim = limitsOf bellard
 abbrev pub AnswersAs : (List ℕ → List ℕ → ℤ) → Type 0
 AnswersAs A =
     (p C : ℕ) → inRange lim p C ≡ true → (posts : List Post) → Filled bellard p C posts → (out : List ℕ) → length out ≡ 32
-    → answered (closeCall bellard (postsBytes lim (fresh lim p C) posts) out) ≡ A (postsBytes lim (fresh lim p C) posts) out
+    → answered (closeCall bellard (ledgerAfter lim p C posts) out) ≡ A (ledgerAfter lim p C posts) out
 
 -- it leaves the bytes that B leaves
 abbrev pub LeavesAs : (List ℕ → List ℕ → List ℕ) → Type 0
 LeavesAs B =
     (p C : ℕ) → inRange lim p C ≡ true → (posts : List Post) → Filled bellard p C posts → (out : List ℕ) → length out ≡ 32
-    → bytesLeft (closeCall bellard (postsBytes lim (fresh lim p C) posts) out) 0 ≡ B (postsBytes lim (fresh lim p C) posts) out
+    → bytesLeft (closeCall bellard (ledgerAfter lim p C posts) out) 0 ≡ B (ledgerAfter lim p C posts) out
 
 -- always 9
 abbrev pub alwaysNine : List ℕ → List ℕ → ℤ
@@ -213,13 +213,13 @@ LooksUntested A = (ledger s total : List ℕ) → answered (lookCall lim ledger 
 
 -- ---- posts, by what they leave of a ledger
 
-unfoldable pub leftBy : (List ℕ → Post → List ℕ) → List ℕ → List Post → List ℕ
-leftBy P s [] = s
-leftBy P s (a ∷ posts) = leftBy P (P s a) posts
+-- lists of posts, each of which leaves what P says; what they answer plays no part
+abbrev pub leaving : (List ℕ → Post → List ℕ) → Machine (List ℕ) Post ℤ
+leaving P = record { next = P; answer = postAnswer lim }
 
 -- the engine's posts leave what posts by P leave, for every list on a fresh ledger
 abbrev pub PostsAs : (List ℕ → Post → List ℕ) → Type 0
-PostsAs P = (p C : ℕ) → inRange lim p C ≡ true → (posts : List Post) → postsBytes lim (fresh lim p C) posts ≡ leftBy P (fresh lim p C) posts
+PostsAs P = (p C : ℕ) → inRange lim p C ≡ true → (posts : List Post) → ledgerAfter lim p C posts ≡ leaves (leaving P) (fresh lim p C) posts
 
 -- a post that does nothing
 abbrev pub doesNothing : List ℕ → Post → List ℕ

@@ -3,14 +3,13 @@
 use Prim.Native.Nat.{ℕ, _≤_, _<_, _-_, _/_, _%_, _^_}
 use native.Mathlib.Nat.{div-one, div-div-eq-div-mul, pow-suc}
 use denote.Ref.{now}
-use Rattle.words.proofs.Bytes.{paste-step, paste-full}
+use Rattle.words.proofs.Bytes.{paste-step, paste-full, length-bytes, bytes-at}
 use native.Mathlib.Omega.{arith}
 use native.Mathlib.Numerals.{add-one}
 use mathlib.Core.Path.{_≡_, refl, sym, ap, _∙_}
 use lib.ListN.{length, length-set}
 use lib.Seq.{paste, paste-zero}
 use Rattle.words.specs.Bytes.{bytesOf}
-use Rattle.words.proofs.Bytes.{length-bytes, bytes-at}
 use Rattle.words.proofs.put.Statement.{statement}
 use Rattle.words.proofs.put.Tie as tie
 
