@@ -1,7 +1,7 @@
 -- Laws of tests.
 -- Assumes nothing.
 use mathlib.Core.Path.{_≡_, refl}
-use mathlib.Core.Bool.{Bool, true, false, _&&_, _||_}
+use mathlib.Core.Bool.{Bool, true, false, _&&_}
 use mathlib.Core.Logic.{_⊎_, inl, inr}
 use Prim.Native.Nat.{ℕ, suc, _<_}
 use native.Mathlib.Omega.{arith}
@@ -33,10 +33,6 @@ right-fails a b e = rw e (and-false a)
 -- true and false are not equal
 pub not-both : (b : Bool) → b ≡ true → b ≡ false → ⊥
 not-both b e f = let z : _≡_ {A = ℕ} 0 1 = cc in omega arith
-
-pub neither : (a b : Bool) → (a || b) ≡ false → (a ≡ false) × (b ≡ false)
-neither true b e = absurd (not-both true refl e)
-neither false b e = (refl, e)
 
 -- `imp a b`: where a holds, b does
 abbrev pub imp : Bool → Bool → Bool

@@ -2,7 +2,7 @@
 // which formula it is.
 use crate::Series;
 ghost use mathlib.Core.Path.{_≡_};
-ghost use Prim.Native.Nat.{_<_};
+ghost use Prim.Native.Nat.{_≤_, _<_};
 ghost use Rattle.series.specs.Series.{rowCount, rowAt};
 ghost use Rattle.series.specs.Names.{formulaOf, rowOf};
 
@@ -88,7 +88,8 @@ const CHECK: [Row; 4] = [
 
 // How many rows there are.
 pub fn row_count(f: Series) -> usize
-    ensures { λ r. ⌜ r ≡ rowCount (formulaOf f) ⌝ }
+    ensures counts { λ r. ⌜ r ≡ rowCount (formulaOf f) ⌝ }
+    ensures few { λ r. ⌜ r ≤ 7 ⌝ }
 {
     match f {
         Series::Bellard => BELLARD.len(),

@@ -9,7 +9,7 @@ use denote.Ref.{now}
 use Rattle.words.specs.Bytes.{AllBytes}
 use Rattle.words.proofs.get.Reads as get-reads
 use Rattle.series.specs.Names.{formulaOf}
-use Rattle.series.proofs.FewRows.{few-rows, near-positions}
+use Rattle.series.proofs.FewRows.{near-positions}
 use Rattle.series.proofs.formula.row_count.Reads as row-count-reads
 use Rattle.run.specs.Run.{limitsOf}
 use Rattle.run.specs.Call.{bytesLeft}
@@ -47,9 +47,9 @@ counted c =
     let t = is-taken _ _ _ (start .pre) in
     record {
       all = all-tickets _ (near-positions f) (now (start .args .ledger)) (now (start .args .s)) (λ i. known .shared-slice-known .given i .fits) (start .pre)
-          _ _ _ _ (rows .row-count .ensures) (get .get .ensures) (c .count2 .ensures .0) (marks .count .ensures);
+          _ _ _ _ (rows .row-count .ensures .0) (get .get .ensures) (c .count2 .ensures .0) (marks .count .ensures);
       wide = mul-le-mul-left (rows .row-count .result) (let C = t .few-blocks in let e = get .get .ensures in omega (arith, C, e));
-      few = let n = few-rows f in omega (arith, n, rows .row-count .ensures);
+      few = rows .row-count .ensures .1;
     }
 
 get-requires : tie.Need-get-requires
@@ -65,10 +65,9 @@ mul-tickets c =
     let start = get .before .before .before in
     let C = is-taken _ _ _ (start .pre) .few-blocks in
     let e = get .get .ensures in
-    let few = few-rows (start .args .f) in
     let few-blocks : get .get .result ≤ 256 = omega (arith, C, e) in
     let wide = mul-le-mul-left (c .row-count .result) few-blocks in
-    record { fits = omega (arith, wide, few, c .row-count .ensures) }
+    record { fits = omega (arith, wide, c .row-count .ensures .1) }
 
 count-requires : tie.Need-count-requires
 unfolding blocksIn

@@ -23,10 +23,10 @@ row-count-requires : tie.Need-row-count-requires
 row-count-requires c κs = search needs
 
 returns : tie.Need-returns
-returns c = row-of _ _ _ _ _ (c .before .row-count .ensures) (c .if1 .taken)
+returns c = row-of _ _ _ _ _ (c .before .row-count .ensures .0) (c .if1 .taken)
 
 returns-2 : tie.Need-returns-2
-returns-2 c = no-row _ _ _ _ _ (c .before .row-count .ensures) (c .if1 .left)
+returns-2 c = no-row _ _ _ _ _ (c .before .row-count .ensures .0) (c .if1 .left)
 
 pub is-ticket-spec : {M : Type 1} → statement M
 is-ticket-spec = tie.close (tie.spec row-count-requires returns returns-2)

@@ -11,7 +11,6 @@ use Rattle.algebra.proofs.Sums.{sum-none, sum-next}
 use Rattle.series.specs.Series.{row, rowCount, rowAt, termCount, plus, minus}
 use Rattle.series.specs.Names.{formulaOf}
 use Rattle.series.specs.declared.Series.{Series}
-use Rattle.series.proofs.FewRows.{few-rows}
 use Rattle.series.proofs.Sides.{by-number}
 use Rattle.interval.specs.Interval.{isCharged, charges}
 use Rattle.interval.specs.Counts.{chargedIn, sideCount, closedCharges}
@@ -55,9 +54,7 @@ in-row-requires c κs = search needs
 add-sum : tie.Need-add-sum Inv-loop μ-loop
 add-sum c =
     let loop = c .before .before in
-    let few = few-rows (loop .before .before .args .f) in
-    let counted = loop .before .row-count .ensures in
-    record { fits = omega (arith, few, counted, loop .loop .inv .2, c .in-row .ensures .1) }
+    record { fits = omega (arith, loop .loop .inv .2, c .in-row .ensures .1) }
 
 add-row : tie.Need-add-row Inv-loop μ-loop
 add-row c = omega arith
@@ -78,9 +75,8 @@ returns : tie.Need-returns Inv-loop μ-loop
 returns c =
     let loop = c .before in
     let a = loop .before .before .args in
-    let counted = loop .before .row-count .ensures in
-    let few = few-rows (a .f) in
-    (all (a .f) (a .added) (a .p) _ _ (loop .loop .inv .1) (omega (arith, counted)), omega (arith, loop .loop .inv .2, counted, few))
+    let counted = loop .before .row-count .ensures .0 in
+    (all (a .f) (a .added) (a .p) _ _ (loop .loop .inv .1) (omega (arith, counted)), omega (arith, loop .loop .inv .2))
 
 pub in-run-spec : {M : Type 1} → statement M
 in-run-spec =

@@ -1,10 +1,8 @@
 -- `ledger::marks::all_below` meets its contract: the count is that of all tickets where all are set.
 -- Assumes nothing.
-use Prim.Native.Nat.{_≤_}
 use native.Mathlib.Nat.{mul-le-mul}
 use native.Mathlib.Omega.{arith}
 use borrow.Author.Needs.{needs}
-use Rattle.series.proofs.FewRows.{few-rows}
 use Rattle.ledger.proofs.Counting.{all-bits}
 use Rattle.ledger.proofs.marks.all_below.Statement.{statement}
 use Rattle.ledger.proofs.marks.all_below.Tie as tie
@@ -16,14 +14,10 @@ row-count-requires : tie.Need-row-count-requires
 row-count-requires c κs = search needs
 
 mul-result : tie.Need-mul-result
-mul-result c =
-    let given = c .before .before .before in
-    let few = few-rows (given .args .f) in
-    let rows : c .row-count .result ≤ 7 = rw (c .row-count .ensures) few in
-    record { fits = omega (arith, mul-le-mul rows (given .pre .1)) }
+mul-result c = record { fits = omega (arith, mul-le-mul (c .row-count .ensures .1) (c .before .before .before .pre .1)) }
 
 returns : tie.Need-returns
-returns c = all-bits _ _ _ _ _ (c .before .count .ensures) (c .row-count .ensures)
+returns c = all-bits _ _ _ _ _ (c .before .count .ensures) (c .row-count .ensures .0)
 
 pub all-below-spec : {M : Type 1} → statement M
 all-below-spec = tie.close (tie.spec count-requires row-count-requires mul-result returns)

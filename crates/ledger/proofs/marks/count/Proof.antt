@@ -6,7 +6,6 @@ use native.Mathlib.Omega.{arith}
 use borrow.Author.Needs.{needs}
 use Rattle.series.specs.Names.{formulaOf}
 use Rattle.series.specs.Series.{rowCount}
-use Rattle.series.proofs.FewRows.{few-rows}
 use Rattle.run.specs.Run.{limitsOf}
 use Rattle.ledger.specs.Marks.{marksFrom}
 use Rattle.ledger.proofs.Counting.{no-row, one-row}
@@ -31,10 +30,7 @@ count-row-requires : tie.Need-count-row-requires Inv-loop μ-loop
 count-row-requires c κs = search needs
 
 add-marks : tie.Need-add-marks Inv-loop μ-loop
-add-marks c =
-    let rows = c .before .before .before in
-    let few = few-rows (rows .before .before .args .f) in
-    record { fits = omega (arith, few, rows .row-count .ensures, c .count-row .ensures .1) }
+add-marks c = record { fits = omega (arith, c .count-row .ensures .1) }
 
 add-row : tie.Need-add-row Inv-loop μ-loop
 add-row c = omega arith
@@ -50,8 +46,7 @@ loop-again c =
 returns : tie.Need-returns Inv-loop μ-loop
 returns c =
     let loop = c .before in
-    let counted = loop .before .row-count .ensures in
-    let e : loop .loop .row ≡ rowCount (formulaOf (loop .before .before .before .args .f)) = omega (arith, counted) in
+    let e : loop .loop .row ≡ rowCount (formulaOf (loop .before .before .before .args .f)) = omega arith in
     rw e at (loop .loop .inv .2)
 
 pub count-spec : {M : Type 1} → statement M

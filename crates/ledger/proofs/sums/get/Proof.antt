@@ -7,7 +7,6 @@ use borrow.Author.Needs.{needs}
 use lib.ListN.{length}
 use Rattle.series.specs.Names.{formulaOf}
 use Rattle.series.specs.Series.{rowCount}
-use Rattle.series.proofs.FewRows.{few-rows}
 use Rattle.ledger.specs.RowSums.{valueAt, heldIn}
 use Rattle.ledger.proofs.RowSums.{none-read, one-read}
 use Rattle.ledger.proofs.sums.get.Statement.{statement}
@@ -26,30 +25,19 @@ loop-holds : tie.Need-loop-holds Inv-loop μ-loop
 loop-holds c = (omega arith, refl, none-read _ 7)
 
 mul-get-wide : tie.Need-mul-get-wide Inv-loop μ-loop
-mul-get-wide c =
-    let rows = c .before .before in
-    omega (arith, few-rows (rows .before .before .args .f), rows .row-count .ensures)
+mul-get-wide c = omega arith
 
 add-get-wide : tie.Need-add-get-wide Inv-loop μ-loop
-add-get-wide c =
-    let rows = c .before .before in
-    omega (arith, few-rows (rows .before .before .args .f), rows .row-count .ensures)
+add-get-wide c = omega arith
 
 get-wide-requires : tie.Need-get-wide-requires Inv-loop μ-loop
-get-wide-requires c κs =
-    let rows = c .before .before in
-    omega (arith, rows .before .before .pre, rows .row-count .ensures)
+get-wide-requires c κs = omega arith
 
 mul-sums : tie.Need-mul-sums Inv-loop μ-loop
-mul-sums c =
-    let rows = c .before .before .before in
-    omega (arith, few-rows (rows .before .before .args .f), rows .row-count .ensures)
+mul-sums c = omega arith
 
 array-set-from-sums : tie.Need-array-set-from-sums Inv-loop μ-loop
-array-set-from-sums c =
-    let rows = c .before .before .before in
-    let few = few-rows (rows .before .before .args .f) in
-    omega (arith, few, rows .row-count .ensures)
+array-set-from-sums c = omega arith
 
 add-row : tie.Need-add-row Inv-loop μ-loop
 add-row c = omega arith
@@ -60,12 +48,11 @@ loop-less c = omega arith
 loop-again : tie.Need-loop-again Inv-loop μ-loop
 loop-again c =
     let loop = c .before .before in
-    let few = few-rows (loop .before .before .before .args .f) in
-    (omega arith, search needs, one-read _ _ _ _ (omega (arith, few, loop .before .row-count .ensures, loop .loop .inv .1)) (c .get-wide .ensures) (loop .loop .inv .2))
+    (omega arith, search needs, one-read _ _ _ _ (omega arith) (c .get-wide .ensures) (loop .loop .inv .2))
 
 returns : tie.Need-returns Inv-loop μ-loop
 returns c =
-    let e : c .before .loop .row ≡ rowCount (formulaOf (c .before .before .before .before .args .f)) = omega (arith, c .before .before .row-count .ensures) in
+    let e : c .before .loop .row ≡ rowCount (formulaOf (c .before .before .before .before .args .f)) = omega arith in
     rw e at (c .before .loop .inv .2)
 
 pub get-spec : {M : Type 1} → statement M

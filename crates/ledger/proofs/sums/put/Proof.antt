@@ -9,7 +9,6 @@ use denote.Ref.{now}
 use lib.ListN.{length, take, drop}
 use Rattle.series.specs.Names.{formulaOf}
 use Rattle.series.specs.Series.{rowCount}
-use Rattle.series.proofs.FewRows.{few-rows}
 use Rattle.ledger.specs.Ledger.{sumAt}
 use Rattle.ledger.specs.Plain.{sumRows}
 use Rattle.ledger.specs.RowSums.{valueAt, withSums}
@@ -31,30 +30,19 @@ loop-holds : tie.Need-loop-holds Inv-loop μ-loop
 loop-holds c = (omega arith, refl, none-put _ _)
 
 mul-put-wide : tie.Need-mul-put-wide Inv-loop μ-loop
-mul-put-wide c =
-    let rows = c .before .before .before in
-    omega (arith, few-rows (rows .before .before .args .f), rows .row-count .ensures)
+mul-put-wide c = omega arith
 
 add-put-wide : tie.Need-add-put-wide Inv-loop μ-loop
-add-put-wide c =
-    let rows = c .before .before .before in
-    omega (arith, few-rows (rows .before .before .args .f), rows .row-count .ensures)
+add-put-wide c = omega arith
 
 mul-put-wide-2 : tie.Need-mul-put-wide-2 Inv-loop μ-loop
-mul-put-wide-2 c =
-    let rows = c .before .before .before in
-    omega (arith, few-rows (rows .before .before .args .f), rows .row-count .ensures)
+mul-put-wide-2 c = omega arith
 
 array-copy-out-put-wide : tie.Need-array-copy-out-put-wide Inv-loop μ-loop
-array-copy-out-put-wide c =
-    let rows = c .before .before .before in
-    let few = few-rows (rows .before .before .args .f) in
-    omega (arith, few, rows .row-count .ensures)
+array-copy-out-put-wide c = omega arith
 
 put-wide-requires : tie.Need-put-wide-requires Inv-loop μ-loop
-put-wide-requires c κs =
-    let rows = c .before .before .before .before in
-    omega (arith, rows .before .before .pre, rows .row-count .ensures)
+put-wide-requires c κs = omega arith
 
 add-row : tie.Need-add-row Inv-loop μ-loop
 add-row c = omega arith
@@ -68,7 +56,7 @@ loop-again c =
     let put = c .before .before in
     let loop = put .before .before .before .before in
     let start = loop .before .before .before in
-    let room : sumAt (loop .loop .row) + 16 ≤ length (now (start .args .s)) = omega (arith, start .pre, loop .before .row-count .ensures) in (
+    let room : sumAt (loop .loop .row) + 16 ≤ length (now (start .args .s)) = omega arith in (
       omega arith,
       search needs,
       one-put (now (start .args .s)) _ _ (valueAt (start .args .t3)) _ room (loop .loop .inv .2) (put .put-wide .ensures),
@@ -80,7 +68,7 @@ same-length c = c .before .loop .inv .1
 returns : tie.Need-returns Inv-loop μ-loop
 unfolding withSums
 returns c =
-    let e : c .before .loop .row ≡ rowCount (formulaOf (c .before .before .before .before .args .f)) = omega (arith, c .before .before .row-count .ensures) in
+    let e : c .before .loop .row ≡ rowCount (formulaOf (c .before .before .before .before .args .f)) = omega arith in
     rw e at (c .before .loop .inv .2)
 
 pub put-spec : {M : Type 1} → statement M
