@@ -1,5 +1,4 @@
 pub mod Opening
-pub mod Inspect
 pub mod Posting
 pub mod MarkBytes
 pub mod Counting

@@ -25,7 +25,7 @@ use Rattle.run.proofs.Range.{range-of, ticket-row, ticket-block}
 use Rattle.run.proofs.Testing.{Left, here, past, none-left, part-here, part-past, part-passes, passed, ticket-passed}
 use Rattle.run.specs.Call.{Call, refusedBy, answered, Does}
 use Rattle.run.proofs.Calls.{finishes, was-worked, turned-down}
-use Rattle.ledger.specs.Ledger.{View, viewOf, ledgerSize, markAt, blocksIn, bitIn, markIn, enter}
+use Rattle.ledger.specs.Ledger.{View, viewOf, ledgerSize, markAt, blocksIn, bitIn, markIn, enter, Enterable}
 use Rattle.ledger.specs.Calls.{ofLedger, ofMarks, postTests, postCall}
 
 -- ---- the bit of a ticket
@@ -97,18 +97,6 @@ post-taken lim v p C row block sum e =
       new = not-true _ (passed 6 _ [] (l .3) .0);
     }
 
--- the same of the bytes of a ledger
-pub record Passed (lim : Limits) (s : List ℕ) (p C row block : ℕ) (sum : List ℕ) : Type 0 where
-  pub sized : length s ≡ ledgerSize lim
-  pub sum-sized : length sum ≡ 16
-  pub range : inRange lim p C ≡ true
-  pub ticket : isTicket lim C row block ≡ true
-  pub unset : bitIn lim s row block ≡ false
-
-pub block-low : {lim : Limits} {s : List ℕ} {p C row block : ℕ} {sum : List ℕ} → Passed lim s p C row block sum → block < 256
-block-low {lim} {s} {p} {C} {row} {block} h =
-    omega (arith, range-of lim p C (h .range) .C-high, ticket-block lim C row block (h .ticket))
-
 -- ---- the tests in their order
 
 -- after those of the ticket the byte of its mark is in a ledger that has its size
@@ -136,17 +124,20 @@ module _ (lim : Limits) (s : List ℕ) (p C row block : ℕ) (sum : List ℕ) wh
   unfolding postCall postTests refusedBy viewOf
   all-tests = record { decide = refl }
 
-  pub passed-all : refusedBy this ≡ 0 → Passed lim s p C row block sum
+  -- what is known where none applies
+  pub enterable : refusedBy this ≡ 0 → (length sum ≡ 16) × Enterable lim s row block
   unfolding postCall refusedBy viewOf
-  passed-all e =
+  enterable e =
       let t = post-taken lim (viewOf lim s) p C row block sum e in
-      record {
-        sized = eqb-true (length s) (ledgerSize lim) (t .sized);
-        sum-sized = t .sum-sized;
-        range = t .range;
-        ticket = t .ticket;
-        unset = sym (mark-is-bit lim s C row block (t .same-C) (t .ticket)) ∙ t .new;
-      }
+      let low = ticket-block lim C row block (t .ticket) in (
+        t .sum-sized,
+        record {
+          sized = eqb-true (length s) (ledgerSize lim) (t .sized);
+          row-in = ticket-row lim C row block (t .ticket);
+          block-in = omega (arith, range-of lim p C (t .range) .C-high);
+          new = sym (mark-is-bit lim s C row block (t .same-C) (t .ticket)) ∙ t .new;
+        },
+      )
 
   pub ledger-size : (length s ≡ ledgerSize lim → ⊥) → negsuc 0 ≡ answered this
   ledger-size h = here all-tests (left-fails _ _ (ne-eqb _ _ h))
@@ -196,15 +187,15 @@ sum-read sum h = ap valueOf (take-all 16 sum (omega arith))
 
 module _ (lim : Limits) (s : List ℕ) (p C row block : ℕ) (sum : List ℕ) (a : Answer)
     (tested : answerOf a ≡ answered (postCall lim s p C row block sum)) where
-  pub none-applied : (v : ℕ) → a ≡ Finished v → Passed lim s p C row block sum
-  none-applied v e = passed-all lim s p C row block sum (was-worked _ a tested v e .0)
+  pub none-applied : (v : ℕ) → a ≡ Finished v → (length sum ≡ 16) × Enterable lim s row block
+  none-applied v e = enterable lim s p C row block sum (was-worked _ a tested v e .0)
 
   pub posted : (v x : ℕ) (t : List ℕ) → a ≡ Finished v → x ≡ field sum 0 16 → t ≡ enter lim s row block x
       → Does (postCall lim s p C row block sum) (pos 0) (t ∷ [])
   unfolding postCall
   posted v x t e ex et =
       let f = finishes (postCall lim s p C row block sum) (was-worked _ a tested v e .0) in
-      (f .0, ap (λ (b : List ℕ). b ∷ []) (et ∙ ap (enter lim s row block) (ex ∙ sum-read sum (none-applied v e .sum-sized))) ∙ f .1)
+      (f .0, ap (λ (b : List ℕ). b ∷ []) (et ∙ ap (enter lim s row block) (ex ∙ sum-read sum (none-applied v e .0))) ∙ f .1)
 
   pub not-posted : (r : Refusal) → a ≡ Refused r → Does (postCall lim s p C row block sum) (answerOf (Refused r)) (s ∷ [])
   unfolding postCall

@@ -1,4 +1,3 @@
 pub mod Unmarked
 pub mod Posted
-pub mod AsPosting
 pub mod Looking

@@ -1,29 +1,71 @@
--- The ways through a look: what is answered by what the tests of posting answered, and what the bytes lent for the total hold then.
+-- A look is refused as posting is; where it is not, its answer and its total are those of the bytes that posting leaves. So beside posting, and on
+-- the ways through the code: by what the tests of posting answered, and by what those of the look did.
 -- Assumes nothing.
 use mathlib.Core.Path.{_≡_, refl, sym, ap, _∙_}
 use mathlib.Core.Bool.{Bool, true, false}
 use mathlib.Core.List.{List, _++_, [], _∷_}
 use Prim.Native.Nat.{ℕ, _+_}
 use native.Mathlib.Omega.{arith}
-use borrow.Author.Tests.{eqb-true, eqb-false}
+use borrow.Author.Tests.{eq-eqb, ne-eqb, eqb-true, eqb-false}
 use lib.Dec.{eqb}
-use lib.IntN.{pos, negsuc}
+use lib.IntN.{pos, negℤ, negsuc}
 use lib.ListN.{length, take, drop}
 use Rattle.words.specs.Bytes.{bytesOf}
 use Rattle.words.proofs.Bytes.{over-all}
 use Rattle.run.specs.Refusal.{refusal}
 use Rattle.run.specs.Run.{Limits}
+use Rattle.run.specs.Call.{answered, refusedBy, allLeft, bytesLeft, Does}
 use Rattle.run.specs.Answers.{answerOf}
 use Rattle.run.specs.declared.Refusal.{Refusal}
 use Rattle.run.specs.declared.Answer.{Answer}
 use Rattle.run.specs.declared.Answer.the-variants.{Finished, Refused}
-use Rattle.run.proofs.Answering.{refused, finished, was-finished, was-number}
-use Rattle.run.specs.Call.{answered, bytesLeft, refusedBy, Does}
+use Rattle.run.proofs.Answering.{negated, refused, finished, stays, kept, changed, not-refused, refused-by, was-finished, was-number}
 use Rattle.run.proofs.Calls.{works, turned-down}
 use Rattle.ledger.specs.Ledger.{viewOf, totalIn}
-use Rattle.posting.specs.Calls.{sheetPostCall}
-use Rattle.look.specs.Look.{unmarkedIn, lookTests, lookCall}
-use Rattle.look.proofs.AsPosting.{wrong-size, same-number}
+use Rattle.posting.specs.Calls.{sheetTests, sheetPostCall}
+use Rattle.look.specs.Look.{lookTests, lookCall, unmarkedIn}
+use Rattle.look.specs.AsPosting.{AsPosting, LooksAsPosted}
+
+module _ (lim : Limits) (ledger s total : List ℕ) where
+  abbrev look-number : ℕ
+  look-number = refusal (lookTests lim (viewOf lim ledger) s total)
+
+  abbrev post-number : ℕ
+  post-number = refusal (sheetTests lim (viewOf lim ledger) s)
+
+  pub wrong-size : (length total ≡ 16 → ⊥) → look-number ≡ 1
+  unfolding lookTests refusal
+  wrong-size h = rw (ne-eqb (length total) 16 h) refl
+
+  module _ (room : length total ≡ 16) where
+    pub same-number : look-number ≡ post-number
+    unfolding lookTests sheetTests refusal
+    same-number = rw (eq-eqb (length total) 16 room) refl
+
+    as-posting : AsPosting lim ledger s total
+    unfolding lookCall refusedBy answered allLeft sheetPostCall
+    as-posting = record {
+      refused = λ n h e.
+          let q : look-number ≡ n = same-number ∙ refused-by post-number 0 n h e in
+          let some : look-number ≡ 0 → ⊥ = λ z. omega (arith, q, z) in
+          (negated look-number _ some ∙ ap (λ (m : ℕ). negℤ (pos m)) q, stays look-number _ total some);
+      only-refused = λ n h e.
+          let q : post-number ≡ n = sym same-number ∙ refused-by look-number _ n h e in
+          negated post-number 0 (λ z. omega (arith, q, z)) ∙ ap (λ (m : ℕ). negℤ (pos m)) q;
+      taken = λ e.
+          let z = same-number ∙ not-refused post-number 0 0 e .0 in
+          (sym (finished look-number _ z), sym (changed look-number _ total z));
+      only-taken = λ n e. sym (finished post-number 0 (sym same-number ∙ not-refused look-number _ n e .0));
+    }
+
+pub looks-as-posted : (lim : Limits) → LooksAsPosted lim
+unfolding lookCall refusedBy answered allLeft
+looks-as-posted lim = record {
+  as-posting = as-posting lim;
+  other-size = λ ledger s total h.
+      let e = wrong-size lim ledger s total h in
+      (sym (refused _ 0 _ e), sym (kept _ 0 _ total e));
+}
 
 -- the post would be taken
 pub would-take : (lim : Limits) (ledger s : List ℕ) (a : Answer) (v : ℕ) → answerOf a ≡ answered (sheetPostCall lim ledger s) → a ≡ Finished v

@@ -10,8 +10,7 @@ use Rattle.series.specs.Names.{formulaOf}
 use Rattle.series.specs.declared.Series.{Series}
 use Rattle.series.proofs.Numbers.{count-small}
 use Rattle.run.specs.Run.{limitsOf, inRange, bound}
-use Rattle.run.proofs.Positions.{position}
-use Rattle.run.proofs.Range.{range-of}
+use Rattle.run.proofs.Range.{range-of, position}
 
 pub bound-grows : (K C i j : ℕ) → 0 < C → i ≤ j → bound K C i ≤ bound K C j
 unfolding bound

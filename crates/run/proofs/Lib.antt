@@ -1,7 +1,6 @@
 pub mod Answering
 pub mod Range
 pub mod Blocks
-pub mod Positions
 pub mod Smallest
 pub mod Testing
 pub mod Calls

@@ -6,7 +6,9 @@ use Prim.Native.Nat.{ℕ, _<_, _≤_}
 use borrow.Author.Tests.{leb-true, ltb-true, lt-ltb}
 use lib.Dec.{leb, ltb}
 use Rattle.algebra.proofs.Booleans.{and-left, and-right, and-both}
-use Rattle.run.specs.Run.{Limits, inRange, isTicket}
+use Rattle.series.specs.Series.{Formula}
+use Rattle.series.specs.Fitting.{Position}
+use Rattle.run.specs.Run.{Limits, inRange, isTicket, limitsOf}
 
 pub record Range (lim : Limits) (p C : ℕ) : Type 0 where
   pub p-low : 1 ≤ p
@@ -37,3 +39,6 @@ ticket-block lim C row block e = ltb-true block C (and-right (ltb row (lim .rows
 pub is-ticket : (lim : Limits) (C row block : ℕ) → row < lim .rows → block < C → isTicket lim C row block ≡ true
 unfolding isTicket
 is-ticket lim C row block h l = and-both (ltb row (lim .rows)) (ltb block C) (lt-ltb row (lim .rows) h) (lt-ltb block C l)
+
+pub position : (F : Formula) (p C : ℕ) → inRange (limitsOf F) p C ≡ true → Position F p
+position F p C e = let w = range-of (limitsOf F) p C e in record { low = w .p-low; high = w .p-high }

@@ -21,8 +21,7 @@ use Rattle.interval.specs.Interval.{isCharged, charges, low, high}
 use Rattle.interval.proofs.Denominator.{whole-exists}
 use Rattle.interval.proofs.AnyRows.{any-rows}
 use Rattle.run.specs.Run.{limitsOf}
-use Rattle.run.proofs.Positions.{position}
-use Rattle.run.proofs.Range.{range-of}
+use Rattle.run.proofs.Range.{range-of, position}
 use Rattle.run.specs.Call.{answered, bytesLeft}
 use Rattle.posting.specs.Posts.{ledgerAfter}
 use Rattle.closing.specs.Closing.{lowOf, highOf, settledAt, digitsAt, closeCall}

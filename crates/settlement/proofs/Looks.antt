@@ -31,8 +31,8 @@ use Rattle.posting.specs.Calls.{sheetTests, sheetPostCall}
 use Rattle.posting.proofs.Simulation.{step, post-answers, Holds, one-post, fresh-holds}
 use Rattle.look.specs.Look.{unmarkedOf, unmarkedIn, lookTests, lookCall}
 use Rattle.look.proofs.Posted.{all-in, post-leaves}
-use Rattle.look.proofs.AsPosting.{looks-as-posted}
 use Rattle.look.proofs.Unmarked.{all-less-marks, none-left}
+use Rattle.look.proofs.Looking.{looks-as-posted}
 use Rattle.closing.specs.Closing.{settledAt, closeBy, closeCall}
 use Rattle.closing.proofs.Encoded.{answer-encoded}
 use Rattle.settlement.specs.Looks.{Step, posting, looking, outcome, stepOutcome, stepBytes, plainOutcome, plainStep, stepsOnBytes, stepsOnPlain, postsAmong, Looks, someSteps, LooksTaken}

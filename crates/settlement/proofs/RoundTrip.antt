@@ -1,7 +1,7 @@
 -- What the writer writes, the reader takes and gives back; and an accepted sheet with right sums is what the writer writes.
 -- Assumes nothing.
 use mathlib.Core.Path.{_≡_, refl, sym, ap, ap₂, _∙_, subst}
-use mathlib.Core.Bool.{Bool, true, _&&_}
+use mathlib.Core.Bool.{_&&_}
 use mathlib.Core.List.{List, [], List·Memᴰ}
 use Prim.Native.Nat.{ℕ, _+_, _*_, _/_, _^_, _<_, _≤_}
 use native.Mathlib.Nat.{le-refl}
@@ -25,11 +25,9 @@ use Rattle.run.specs.Call.{answered, bytesLeft, refusedBy, allLeft}
 use Rattle.sheet.specs.Sheet.{sheetLength, sheetMost, sheetPos, sheetBlocks, sheetCount, entries, allTickets, ascending, wellFormed, sheetOf, listOf, listed}
 use Rattle.sheet.specs.Tests.{sheetSized}
 use Rattle.sheet.specs.Calls.{over, readTests, readCall, writeCall}
-use Rattle.sheet.proofs.Form.{formed, sheet-fits, SheetPassed, sheet-passed}
+use Rattle.sheet.proofs.Form.{formed, formed-length, sheet-fits, SheetPassed, sheet-passed, Writable, writable, not-refused}
 use Rattle.sheet.proofs.Many.{count-entries, count-listed}
-use Rattle.sheet.proofs.Sheets.{Fitting, pos-read, blocks-read, count-read, entries-read, sheet-again}
-use Rattle.sheet.proofs.Again.{length-sheet, length-list, list-again, listed-again, fitting, written-formed, listed-right}
-use Rattle.sheet.proofs.Writable.{Writable, writable, not-refused}
+use Rattle.sheet.proofs.Sheets.{Fitting, pos-read, blocks-read, count-read, entries-read, sheet-again, length-sheet, length-list, list-again, listed-again, fitting, written-formed, listed-right}
 use Rattle.ledger.specs.Ledger.{View, viewOf}
 use Rattle.posting.specs.Calls.{sheetTests, sheetPostCall}
 use Rattle.posting.proofs.Testing.{sheet-taken}
@@ -140,28 +138,17 @@ record Passed (lim : Limits) (s : List ℕ) : Type 0 where
 
 module _ (F : Formula) (fits : Fits F) (s out : List ℕ) (bytes : AllBytes s) (acc : Passed (limitsOf F) s) (right : RightSums F s)
     (room : length s ≤ length out) where
-  tested : Bool
-  tested =
-      eqb (length s) (sheetLength (sheetCount s)) && eqb (field s 12 4) 0
-      && allBelow (sheetCount s) (λ i. eqb (getD s (17 + 4 * i) 0) 0)
-
-  tests-hold : tested ≡ true
-  unfolding tested wellFormed
-  tests-hold = and-left tested (ascending (entries s)) (acc .form .well-formed)
-
   length-is : length s ≡ sheetLength (sheetCount s)
-  unfolding tested
-  length-is =
-      let a = and-left (eqb (length s) (sheetLength (sheetCount s)) && eqb (field s 12 4) 0) _ tests-hold in
-      eqb-true _ _ (and-left (eqb (length s) (sheetLength (sheetCount s))) _ a)
+  length-is = formed-length s (acc .form .well-formed)
 
   again : sheetOf (sheetPos s) (sheetBlocks s) (entries s) ≡ s
-  unfolding tested
+  unfolding wellFormed
   again =
-      let a = and-left (eqb (length s) (sheetLength (sheetCount s)) && eqb (field s 12 4) 0) _ tests-hold in
-      let z = and-right (eqb (length s) (sheetLength (sheetCount s)) && eqb (field s 12 4) 0) _ tests-hold in
-      sheet-again s bytes length-is (eqb-true _ _ (and-right (eqb (length s) (sheetLength (sheetCount s))) _ a))
-      (λ j h. eqb-true _ _ (all-at (sheetCount s) _ z j h))
+      let zeros = and-left _ (ascending (entries s)) (acc .form .well-formed) in
+      let head = and-left _ (allBelow (sheetCount s) (λ i. eqb (getD s (17 + 4 * i) 0) 0)) zeros in
+      let each = and-right (eqb (length s) (sheetLength (sheetCount s)) && eqb (field s 12 4) 0) _ zeros in
+      sheet-again s bytes length-is (eqb-true _ _ (and-right (eqb (length s) (sheetLength (sheetCount s))) _ head))
+      (λ j h. eqb-true _ _ (all-at (sheetCount s) _ each j h))
 
   listed-are : listed F (sheetPos s) (sheetBlocks s) (listOf (entries s)) ≡ entries s
   unfolding RightSums

@@ -20,8 +20,7 @@ use Rattle.interval.specs.Interval.{isCharged, LiesFrom, Positive, RestBelowUni
 use Rattle.interval.proofs.AnyRows.{any-rows}
 use Rattle.run.specs.Refusal.{refusal, answer}
 use Rattle.run.specs.Run.{limitsOf, inRange}
-use Rattle.run.proofs.Positions.{position}
-use Rattle.run.proofs.Range.{range-of, is-ticket}
+use Rattle.run.proofs.Range.{range-of, is-ticket, position}
 use Rattle.run.specs.Call.{answered, bytesLeft, refusedBy, allLeft}
 use Rattle.ledger.specs.Ledger.{fresh, ledgerSize, totalOf}
 use Rattle.ledger.specs.Plain.{Plain, opened, plainView, encode}

@@ -1,9 +1,10 @@
--- What is asked of a sheet and of a list: each part as the code tests it, and what is known where it is passed.
+-- What is asked of a sheet and of a list: each part as the code tests it, and what is known where it is passed; and the same of all that the writer
+-- asks.
 -- Assumes nothing.
 use mathlib.Core.Path.{_≡_, refl}
 use mathlib.Core.Bool.{Bool, true, false, _&&_}
 use mathlib.Core.List.{List, [], _++_}
-use Prim.Native.Nat.{ℕ, _+_, _*_, _%_, _<_, _≤_}
+use Prim.Native.Nat.{ℕ, _+_, _*_, _%_, _<_, _≤_, _/_}
 use borrow.Author.Tests.{eqb-true, eq-eqb, ne-eqb, leb-true, le-leb, lt-leb}
 use lib.Dec.{eqb, leb}
 use lib.IntN.{pos, negsuc}
@@ -14,9 +15,11 @@ use Rattle.words.specs.Bytes.{field}
 use Rattle.series.specs.Series.{Formula}
 use Rattle.run.specs.Refusal.{Test, refusal, answer, tested}
 use Rattle.run.specs.Run.{Limits, limitsOf, inRange}
+use Rattle.run.specs.Call.{refusedBy}
 use Rattle.run.proofs.Testing.{passed}
 use Rattle.sheet.specs.Sheet.{sheetLength, sheetMost, listMost, sheetPos, sheetBlocks, sheetCount, entriesFrom, entries, allTickets, ascending, wellFormed, listed}
 use Rattle.sheet.specs.Tests.{sheetSized, ofSheet, listSized, ofList}
+use Rattle.sheet.specs.Calls.{writeTests, writeCall}
 
 -- ---- sizes
 
@@ -139,3 +142,39 @@ list-passed F p C list e =
     let run = passed 1 _ _ e in
     let form = passed 2 _ _ (run .1) in
     record { range = run .0; ascends = form .0; tickets = passed 3 _ [] (form .1) .0 }
+
+pub record Writable (F : Formula) (p C : ℕ) (list out : List ℕ) : Type 0 where
+  pub even : length list % 2 ≡ 0
+  pub short : length list ≤ listMost (limitsOf F)
+  pub room : sheetLength (length list / 2) ≤ length out
+  pub range : inRange (limitsOf F) p C ≡ true
+  pub ascends : ascending (listed F p C list) ≡ true
+  pub tickets : allTickets (limitsOf F) C (listed F p C list) ≡ true
+
+module _ (F : Formula) (p C : ℕ) (list out : List ℕ) where
+  pub writable : refusedBy (writeCall F p C list out) ≡ 0 → Writable F p C list out
+  unfolding writeCall writeTests refusedBy
+  writable e =
+      let sizes = passed 0 _ _ e in
+      let fits = list-fits (limitsOf F) list (and-left (listSized (limitsOf F) list) _ (sizes .0)) in
+      let t = list-passed F p C list (sizes .1) in
+      record {
+        even = fits .0;
+        short = fits .1;
+        room = leb-true _ _ (and-right (listSized (limitsOf F) list) _ (sizes .0));
+        range = t .range;
+        ascends = t .ascends;
+        tickets = t .tickets;
+      }
+
+  pub not-refused : Writable F p C list out → refusedBy (writeCall F p C list out) ≡ 0
+  unfolding writeCall writeTests listSized refusedBy refusal
+  not-refused t =
+      rw (
+        eq-eqb (length list % 2) 0 (t .even),
+        le-leb (length list) (listMost (limitsOf F)) (t .short),
+        le-leb (sheetLength (length list / 2)) (length out) (t .room),
+        t .range,
+        t .ascends,
+        t .tickets,
+      ) refl

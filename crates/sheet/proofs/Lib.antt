@@ -1,9 +1,6 @@
 pub mod Form
 pub mod Many
 pub mod Sheets
-pub mod Again
 pub mod Each
-pub mod Pairs
 pub mod Over
 pub mod ReadTests
-pub mod Writable

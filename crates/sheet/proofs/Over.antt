@@ -12,8 +12,7 @@ use Rattle.words.specs.Bytes.{bytesOf}
 use Rattle.run.specs.Run.{Entry}
 use Rattle.sheet.specs.Sheet.{key, line, contentsOf, bodiesOf, listOf}
 use Rattle.sheet.specs.Calls.{over}
-use Rattle.sheet.proofs.Sheets.{length-contents}
-use Rattle.sheet.proofs.Again.{length-list, length-bodies}
+use Rattle.sheet.proofs.Sheets.{length-contents, length-list, length-bodies}
 use Rattle.sheet.proofs.Each.{nothing}
 
 -- x written after what is written already, which is n bytes

@@ -8,8 +8,7 @@ use Rattle.series.specs.Series.{Formula, rowCount, termCount}
 use Rattle.series.specs.Fitting.{Position}
 use Rattle.run.specs.Run.{limitsOf, inRange, isTicket, bound, ticketSum}
 use Rattle.run.proofs.Blocks.{bound-grows, bound-le}
-use Rattle.run.proofs.Positions.{position}
-use Rattle.run.proofs.Range.{range-of, ticket-row, ticket-block}
+use Rattle.run.proofs.Range.{range-of, ticket-row, ticket-block, position}
 use Rattle.ticket.specs.Parts.{cut, partFirst, partEnd, partCount, partSum}
 use Rattle.ticket.specs.declared.Part.{Part}
 use Rattle.ticket.specs.declared.Part.the-variants.{Whole, Lower, Upper}

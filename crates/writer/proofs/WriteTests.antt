@@ -26,10 +26,9 @@ use Rattle.sheet.specs.Sheet.{sheetLength, contentsOf, bodiesOf, sheetOf, liste
 use Rattle.sheet.specs.Tests.{listSized, ofList}
 use Rattle.sheet.specs.Calls.{over, writeTests, writeCall}
 use Rattle.sheet.proofs.Many.{count-listed}
-use Rattle.sheet.proofs.Sheets.{length-contents}
-use Rattle.sheet.proofs.Again.{length-sheet}
-use Rattle.sheet.proofs.Writable.{Writable, writable}
+use Rattle.sheet.proofs.Sheets.{length-contents, length-sheet}
 use Rattle.sheet.proofs.Over.{write-next}
+use Rattle.sheet.proofs.Form.{Writable, writable}
 
 -- head, contents and bodies, written one after the other, are the sheet
 parts : (p C e : ℕ) (ts : List Entry) (out o₁ o₂ o₃ : List ℕ) → length ts ≡ e

@@ -1,12 +1,33 @@
 -- `ledger::in_order` meets its contract: one law for each way out.
 -- Assumes nothing.
-use mathlib.Core.Path.{sym, _∙_}
+use mathlib.Core.Path.{_≡_, refl, sym, _∙_}
+use mathlib.Core.Bool.{Bool, true, false, not, _||_}
+use mathlib.Core.List.{List}
+use Prim.Native.Nat.{ℕ}
+use borrow.Author.Tests.{eq-eqb, ne-eqb, not-true, not-false}
 use borrow.Author.Needs.{needs}
-use borrow.Author.Tests.{not-true, not-false}
+use lib.Dec.{ltb}
+use Rattle.algebra.specs.Test.{allBelow}
+use Rattle.words.specs.Bytes.{field}
+use Rattle.run.specs.Run.{Limits, inRange}
 use Rattle.run.proofs.Range.{range-of}
-use Rattle.ledger.proofs.Inspect.{no-run, not-zero, by-rows}
+use Rattle.ledger.specs.Ledger.{posIn, blocksIn, bitIn, inOrder}
 use Rattle.ledger.proofs.in_order.Statement.{statement}
 use Rattle.ledger.proofs.in_order.Tie as tie
+
+module _ (lim : Limits) (s : List ℕ) (p C : ℕ) (ep : p ≡ field s 0 8) (eC : C ≡ field s 8 2) where
+  no-run : inRange lim p C ≡ false → false ≡ inOrder lim s
+  unfolding inOrder posIn blocksIn
+  no-run r = rw (← ep, ← eC, r) refl
+
+  not-zero : (z : ℕ) → inRange lim p C ≡ true → z ≡ field s 10 6 → (z ≡ 0 → ⊥) → false ≡ inOrder lim s
+  unfolding inOrder posIn blocksIn
+  not-zero z r e h = rw (← ep, ← eC, r, ← e, ne-eqb z 0 h) refl
+
+  by-rows : (z : ℕ) (b : Bool) → inRange lim p C ≡ true → z ≡ field s 10 6 → z ≡ 0
+      → b ≡ allBelow (lim .rows) (λ row. allBelow 256 (λ block. ltb block C || not (bitIn lim s row block))) → b ≡ inOrder lim s
+  unfolding inOrder posIn blocksIn
+  by-rows z b r e h f = rw (← ep, ← eC, r, ← e, eq-eqb z 0 h) f
 
 get-requires : tie.Need-get-requires
 get-requires c κs = search needs

@@ -2,8 +2,7 @@
 -- Assumes nothing.
 use native.Mathlib.Omega.{arith}
 use borrow.Author.Needs.{needs}
-use Rattle.run.proofs.Range.{ticket-row}
-use Rattle.ledger.proofs.Posting.{block-low, none-applied, posted, not-posted}
+use Rattle.ledger.proofs.Posting.{none-applied, posted, not-posted}
 use Rattle.ledger.proofs.post.Statement.{statement}
 use Rattle.ledger.proofs.post.Tie as tie
 
@@ -16,13 +15,12 @@ enum-told c = search needs
 get-wide-requires : tie.Need-get-wide-requires
 get-wide-requires c κs =
     let told = c .before in
-    omega (arith, none-applied _ _ _ _ _ _ _ _ (told .before .before .test-post .ensures) _ (told .enum-told .given .1) .sum-sized)
+    omega (arith, none-applied _ _ _ _ _ _ _ _ (told .before .before .test-post .ensures) _ (told .enum-told .given .1) .0)
 
 enter-requires : tie.Need-enter-requires
 enter-requires c κs =
     let told = c .before .before in
-    let h = none-applied _ _ _ _ _ _ _ _ (told .before .before .test-post .ensures) _ (told .enum-told .given .1) in
-    record { sized = h .sized; row-in = ticket-row _ _ _ _ (h .ticket); block-in = block-low h; new = h .unset }
+    none-applied _ _ _ _ _ _ _ _ (told .before .before .test-post .ensures) _ (told .enum-told .given .1) .1
 
 enum-known-r : tie.Need-enum-known-r
 enum-known-r c = search needs

@@ -15,8 +15,8 @@ use Rattle.series.specs.Names.{formulaOf}
 use Rattle.run.specs.Run.{Entry, Limits, isTicket, ticketSum}
 use Rattle.ticket.proofs.Parts.{whole-sum}
 use Rattle.sheet.specs.Sheet.{allTickets, bodiesOf, listed}
-use Rattle.sheet.proofs.Pairs.{pairRow, pairBlock, count, pair-at, tickets-listed}
 use Rattle.sheet.proofs.Over.{bodies, over-to, start, turn, finish}
+use Rattle.sheet.proofs.Each.{pairRow, pairBlock, count, pair-at, tickets-listed}
 use Rattle.writer.proofs.put_bodies.Statement.{statement}
 use Rattle.writer.proofs.put_bodies.Tie as tie
 

@@ -10,10 +10,10 @@ use lib.ListN.{length, take, drop}
 use Rattle.series.specs.Series.{Formula}
 use Rattle.run.specs.Run.{Entry}
 use Rattle.sheet.specs.Sheet.{line, contentsOf, listed}
-use Rattle.sheet.proofs.Pairs.{pairRow, pairBlock, count, pair-at}
 use Rattle.sheet.proofs.Over.{contents, over-to, start, turn, finish}
 use Rattle.sheet.proofs.layout.put_contents.Statement.{statement}
 use Rattle.sheet.proofs.layout.put_contents.Tie as tie
+use Rattle.sheet.proofs.Each.{pairRow, pairBlock, count, pair-at}
 
 -- after i turns, whatever the sums are
 abbrev Written : List ℕ → List ℕ → List ℕ → ℕ → Type 0

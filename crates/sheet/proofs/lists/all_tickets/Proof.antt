@@ -11,9 +11,9 @@ use Rattle.algebra.specs.Test.{allBelow}
 use Rattle.algebra.proofs.Below.{below-none, below-next, below-false}
 use Rattle.series.specs.Names.{formulaOf}
 use Rattle.run.specs.Run.{Limits, limitsOf, isTicket}
-use Rattle.sheet.proofs.Pairs.{pairRow, pairBlock, tickets-listed}
 use Rattle.sheet.proofs.lists.all_tickets.Statement.{statement}
 use Rattle.sheet.proofs.lists.all_tickets.Tie as tie
+use Rattle.sheet.proofs.Each.{pairRow, pairBlock, tickets-listed}
 
 abbrev ticketAt : Limits → ℕ → List ℕ → ℕ → Bool
 ticketAt lim C list i = isTicket lim C (pairRow list i) (pairBlock list i)

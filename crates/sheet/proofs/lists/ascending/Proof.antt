@@ -9,9 +9,9 @@ use borrow.Author.Tests.{lt-ltb}
 use Rattle.algebra.specs.Test.{allBelow}
 use Rattle.algebra.proofs.Below.{below-none, below-next}
 use Rattle.words.specs.Bytes.{field}
-use Rattle.sheet.proofs.Pairs.{pair-rises, pairs-ascend, pairs-fall}
 use Rattle.sheet.proofs.lists.ascending.Statement.{statement}
 use Rattle.sheet.proofs.lists.ascending.Tie as tie
+use Rattle.sheet.proofs.Each.{pair-rises, pairs-ascend, pairs-fall}
 
 -- a turn, with the pairs as the code has them
 next : (list : List ℕ) (i k l : ℕ) → k ≡ field list (2 * (i + 1)) 2 → l ≡ field list (2 * i) 2 → l < k → allBelow i (pair-rises list) ≡ true

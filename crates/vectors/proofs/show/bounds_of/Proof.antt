@@ -3,9 +3,9 @@
 use mathlib.Core.Path.{sym, _∙_}
 use native.Mathlib.Omega.{arith}
 use borrow.Author.Tests.{not-false}
-use Rattle.run.proofs.Positions.{position}
 use borrow.Author.Needs.{needs}
 use Rattle.run.proofs.Blocks.{bounded}
+use Rattle.run.proofs.Range.{position}
 use Rattle.vectors.proofs.show.bounds_of.Statement.{statement}
 use Rattle.vectors.proofs.show.bounds_of.Tie as tie
 

@@ -2,8 +2,8 @@
 -- Assumes nothing.
 use mathlib.Core.Path.{sym, _∙_}
 use borrow.Author.Tests.{not-false}
-use Rattle.run.proofs.Positions.{position}
 use borrow.Author.Needs.{needs}
+use Rattle.run.proofs.Range.{position}
 use Rattle.vectors.proofs.show.count_at.Statement.{statement}
 use Rattle.vectors.proofs.show.count_at.Tie as tie
 

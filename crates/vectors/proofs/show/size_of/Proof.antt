@@ -8,8 +8,7 @@ use Rattle.series.specs.Fitting.{Workable}
 use Rattle.series.specs.declared.terms.Numbers.{Numbers}
 use Rattle.series.proofs.Numbers.{workable}
 use Rattle.series.proofs.Table.{fitting}
-use Rattle.run.proofs.Positions.{position}
-use Rattle.run.proofs.Range.{ticket-row}
+use Rattle.run.proofs.Range.{ticket-row, position}
 use borrow.Author.Needs.{needs}
 use Rattle.vectors.proofs.show.size_of.Statement.{statement}
 use Rattle.vectors.proofs.show.size_of.Tie as tie
