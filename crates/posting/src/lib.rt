@@ -1,8 +1,8 @@
 // Posting a sheet: all of its tickets, or none.
-use sheet::contents;
 use run::Answer;
 use run::Refusal;
 use series::Series;
+use sheet::contents;
 ghost use mathlib.Core.Path.{_≡_};
 ghost use mathlib.Core.Bool.{true};
 ghost use mathlib.Core.List.{[], _∷_, foldl};
@@ -52,9 +52,12 @@ pub fn test_post(f: Series, ledger: &[u8], s: &[u8]) -> Answer
     if let Answer::Refused(r) = contents::test_sheet(f, s) {
         return Answer::Refused(r);
     }
-    if let Answer::Refused(r) =
-        ledger::test_ledger(f, ledger, words::get(s, 0, 8), words::get(s, 8, 2))
-    {
+    if let Answer::Refused(r) = ledger::test_ledger(
+        f,
+        ledger,
+        words::get(s, 0, 8),
+        words::get(s, 8, 2),
+    ) {
         return Answer::Refused(r);
     }
     if !none_marked(f, ledger, s, contents::count(s)) {

@@ -24,7 +24,6 @@ n unless b = n ⇐ not b
 
 infix 20 _⇐_
 infix 20 _unless_
-
 -- the number of the first test that applies, or 0 where none does: each call lists its tests with the smallest number first
 unfoldable pub refusal : List Test → ℕ
 refusal [] = 0

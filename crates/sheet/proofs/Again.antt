@@ -137,4 +137,3 @@ listed-right F p C [] t m = absurd (List·Memᴰ·not-nil m)
 listed-right F p C (b ∷ []) t m = absurd (List·Memᴰ·not-nil m)
 listed-right F p C (b ∷ r ∷ bs) t (List·Memᴰ·head e) = subst (λ (u : Entry). u .sum ≡ ticketSum F p C (u .row) (u .block)) (sym e) refl
 listed-right F p C (b ∷ r ∷ bs) t (List·Memᴰ·tail m) = listed-right F p C bs t m
-

@@ -32,7 +32,7 @@ returns-2 c =
     (sym (range .in-range .ensures) ∙ not-false _ (c .before .before .if1 .left)) (c .before .get3 .ensures) (c .if2 .taken)
 
 none-from-requires : tie.Need-none-from-requires
-none-from-requires c κs = 
+none-from-requires c κs =
     let zero = c .before in
     let range = zero .before .before in
     (search needs, range-of _ _ _ (sym (range .in-range .ensures) ∙ not-false _ (zero .before .if1 .left)) .C-high)
