@@ -70,8 +70,8 @@ fn bounds_of(f: Series, p: u64, c: u64, i: u64) {
         return;
     }
     let count = series::terms::term_count(f, p);
-    number(ticket::bound(count, c, i));
-    number(ticket::bound(count, c, i + 1));
+    number(run::bound(count, c, i));
+    number(run::bound(count, c, i + 1));
 }
 
 fn size_of(f: Series, p: u64, row: u64, k: u64) {
