@@ -21,7 +21,10 @@ pub fn on_side(same: bool, n: u64) -> u64
 // the odd ones with that of term 1.
 pub fn in_row(f: Series, added: bool, p: u64, row: u64) -> u64
     requires { ⌜ Position (formulaOf f) p × (row < rowCount (formulaOf f)) ⌝ }
-    ensures counts { λ r. ⌜ r ≡ sideCount (formulaOf f) (cond added plus minus) (rowAt (formulaOf f) row) (chargedIn (formulaOf f) p (rowAt (formulaOf f) row)) ⌝ }
+    ensures counts { λ r. ⌜
+        r ≡ sideCount (formulaOf f) (cond added plus minus) (rowAt (formulaOf f) row)
+        (chargedIn (formulaOf f) p (rowAt (formulaOf f) row))
+        ⌝ }
     ensures small { λ r. ⌜ r ≤ 2 ^ 60 ⌝ }
 {
     let numbers = series::terms::numbers_of(f, p, row);

@@ -65,7 +65,10 @@ pub extern "C" fn bbp_check_sheet_post(ledger: &mut [u8], sheet: &[u8]) -> i64
 // For Bellard's runs alone.
 #[no_mangle]
 pub extern "C" fn bbp_look(ledger: &[u8], sheet: &[u8], total: &mut [u8]) -> i64
-    ensures { λ r. ⌜ Serves bellard (Look (now (ledger .entry)) (now (sheet .entry)) (now (total .entry))) r (now (total .exit) ∷ []) (now (ledger .exit) ∷ now (sheet .exit) ∷ []) ⌝ }
+    ensures { λ r. ⌜
+        Serves bellard (Look (now (ledger .entry)) (now (sheet .entry)) (now (total .entry))) r (now (total .exit) ∷ [])
+        (now (ledger .exit) ∷ now (sheet .exit) ∷ [])
+        ⌝ }
 {
     to_c(look::look(Series::Bellard, ledger, sheet, total))
 }

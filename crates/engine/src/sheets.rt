@@ -22,14 +22,20 @@ pub extern "C" fn bbp_check_sheet_write(p: u64, c: u64, list: &[u8], sheet: &mut
 
 #[no_mangle]
 pub extern "C" fn bbp_sheet_read(sheet: &[u8], list: &mut [u8], sums: &mut [u8]) -> i64
-    ensures { λ r. ⌜ Serves bellard (ReadSheet (now (sheet .entry)) (now (list .entry)) (now (sums .entry))) r (now (list .exit) ∷ now (sums .exit) ∷ []) (now (sheet .exit) ∷ []) ⌝ }
+    ensures { λ r. ⌜
+        Serves bellard (ReadSheet (now (sheet .entry)) (now (list .entry)) (now (sums .entry))) r
+        (now (list .exit) ∷ now (sums .exit) ∷ []) (now (sheet .exit) ∷ [])
+        ⌝ }
 {
     to_c(sheet::reading::read(Series::Bellard, sheet, list, sums))
 }
 
 #[no_mangle]
 pub extern "C" fn bbp_check_sheet_read(sheet: &[u8], list: &mut [u8], sums: &mut [u8]) -> i64
-    ensures { λ r. ⌜ Serves check (ReadSheet (now (sheet .entry)) (now (list .entry)) (now (sums .entry))) r (now (list .exit) ∷ now (sums .exit) ∷ []) (now (sheet .exit) ∷ []) ⌝ }
+    ensures { λ r. ⌜
+        Serves check (ReadSheet (now (sheet .entry)) (now (list .entry)) (now (sums .entry))) r
+        (now (list .exit) ∷ now (sums .exit) ∷ []) (now (sheet .exit) ∷ [])
+        ⌝ }
 {
     to_c(sheet::reading::read(Series::Check, sheet, list, sums))
 }

@@ -17,7 +17,10 @@ pub extern "C" fn bbp_work(
     sum: &mut [u8],
     squarings: &mut [u8],
 ) -> i64
-    ensures { λ r. ⌜ Serves bellard (Work Whole p c row block (now (sum .entry)) (now (squarings .entry))) r (now (sum .exit) ∷ now (squarings .exit) ∷ []) [] ⌝ }
+    ensures { λ r. ⌜
+        Serves bellard (Work Whole p c row block (now (sum .entry)) (now (squarings .entry))) r
+        (now (sum .exit) ∷ now (squarings .exit) ∷ []) []
+        ⌝ }
 {
     to_c(ticket::work(
         Series::Bellard,
@@ -40,7 +43,10 @@ pub extern "C" fn bbp_check_work(
     sum: &mut [u8],
     squarings: &mut [u8],
 ) -> i64
-    ensures { λ r. ⌜ Serves check (Work Whole p c row block (now (sum .entry)) (now (squarings .entry))) r (now (sum .exit) ∷ now (squarings .exit) ∷ []) [] ⌝ }
+    ensures { λ r. ⌜
+        Serves check (Work Whole p c row block (now (sum .entry)) (now (squarings .entry))) r
+        (now (sum .exit) ∷ now (squarings .exit) ∷ []) []
+        ⌝ }
 {
     to_c(ticket::work(Series::Check, Part::Whole, p, c, row, block, sum, squarings))
 }
@@ -54,7 +60,10 @@ pub extern "C" fn bbp_work_lower(
     sum: &mut [u8],
     squarings: &mut [u8],
 ) -> i64
-    ensures { λ r. ⌜ Serves bellard (Work Lower p c row block (now (sum .entry)) (now (squarings .entry))) r (now (sum .exit) ∷ now (squarings .exit) ∷ []) [] ⌝ }
+    ensures { λ r. ⌜
+        Serves bellard (Work Lower p c row block (now (sum .entry)) (now (squarings .entry))) r
+        (now (sum .exit) ∷ now (squarings .exit) ∷ []) []
+        ⌝ }
 {
     to_c(ticket::work(
         Series::Bellard,
@@ -77,7 +86,10 @@ pub extern "C" fn bbp_check_work_lower(
     sum: &mut [u8],
     squarings: &mut [u8],
 ) -> i64
-    ensures { λ r. ⌜ Serves check (Work Lower p c row block (now (sum .entry)) (now (squarings .entry))) r (now (sum .exit) ∷ now (squarings .exit) ∷ []) [] ⌝ }
+    ensures { λ r. ⌜
+        Serves check (Work Lower p c row block (now (sum .entry)) (now (squarings .entry))) r
+        (now (sum .exit) ∷ now (squarings .exit) ∷ []) []
+        ⌝ }
 {
     to_c(ticket::work(Series::Check, Part::Lower, p, c, row, block, sum, squarings))
 }
@@ -91,7 +103,10 @@ pub extern "C" fn bbp_work_upper(
     sum: &mut [u8],
     squarings: &mut [u8],
 ) -> i64
-    ensures { λ r. ⌜ Serves bellard (Work Upper p c row block (now (sum .entry)) (now (squarings .entry))) r (now (sum .exit) ∷ now (squarings .exit) ∷ []) [] ⌝ }
+    ensures { λ r. ⌜
+        Serves bellard (Work Upper p c row block (now (sum .entry)) (now (squarings .entry))) r
+        (now (sum .exit) ∷ now (squarings .exit) ∷ []) []
+        ⌝ }
 {
     to_c(ticket::work(
         Series::Bellard,
@@ -114,7 +129,10 @@ pub extern "C" fn bbp_check_work_upper(
     sum: &mut [u8],
     squarings: &mut [u8],
 ) -> i64
-    ensures { λ r. ⌜ Serves check (Work Upper p c row block (now (sum .entry)) (now (squarings .entry))) r (now (sum .exit) ∷ now (squarings .exit) ∷ []) [] ⌝ }
+    ensures { λ r. ⌜
+        Serves check (Work Upper p c row block (now (sum .entry)) (now (squarings .entry))) r
+        (now (sum .exit) ∷ now (squarings .exit) ∷ []) []
+        ⌝ }
 {
     to_c(ticket::work(Series::Check, Part::Upper, p, c, row, block, sum, squarings))
 }

@@ -57,7 +57,10 @@ pub fn by_halves(row: &[u64; 7], first: u64, count: u64, store: &mut [u64; 26]) 
 // The signed sum of the sizes of a row's terms from `first` up to, not including, `end`, modulo 2^128, by halves, and their squarings.
 pub fn range_sum(f: Series, p: u64, row: u64, first: u64, end: u64) -> Worked
     requires { ⌜ Position (formulaOf f) p × (row < rowCount (formulaOf f)) × (first ≤ end) × (end ≤ termCount (formulaOf f) p) ⌝ }
-    ensures { λ s. ⌜ (joined (s .sum .hi) (s .sum .lo) ≡ rangeSum (formulaOf f) p (rowAt (formulaOf f) row) first (end - first)) × (joined (s .squarings .hi) (s .squarings .lo) ≡ rangeSquarings (formulaOf f) p (rowAt (formulaOf f) row) first (end - first)) ⌝ }
+    ensures { λ s. ⌜
+        (joined (s .sum .hi) (s .sum .lo) ≡ rangeSum (formulaOf f) p (rowAt (formulaOf f) row) first (end - first))
+        × (joined (s .squarings .hi) (s .squarings .lo) ≡ rangeSquarings (formulaOf f) p (rowAt (formulaOf f) row) first (end - first))
+        ⌝ }
 {
     let numbers = crate::terms::numbers_of(f, p, row);
     let words = crate::store::words_of(numbers, end);

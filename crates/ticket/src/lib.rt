@@ -49,7 +49,10 @@ pub fn range_of(f: Series, part: Part, p: u64, c: u64, block: u64) -> Range
 // The sum of a part of a ticket, and its squarings: of the whole first to last, of a half by halves.
 pub fn sum(f: Series, part: Part, p: u64, c: u64, row: u64, block: u64) -> Worked
     requires { ⌜ (inRange (limitsOf (formulaOf f)) p c ≡ true) × (isTicket (limitsOf (formulaOf f)) c row block ≡ true) ⌝ }
-    ensures { λ s. ⌜ (joined (s .sum .hi) (s .sum .lo) ≡ partSum (formulaOf f) part p c row block) × (joined (s .squarings .hi) (s .squarings .lo) ≡ partSquarings (formulaOf f) part p c row block) ⌝ }
+    ensures { λ s. ⌜
+        (joined (s .sum .hi) (s .sum .lo) ≡ partSum (formulaOf f) part p c row block)
+        × (joined (s .squarings .hi) (s .squarings .lo) ≡ partSquarings (formulaOf f) part p c row block)
+        ⌝ }
 {
     let range = range_of(f, part, p, c, block);
     match part {
@@ -105,7 +108,10 @@ pub fn work(
     out: &mut [u8],
     squarings: &mut [u8],
 ) -> Answer
-    ensures { λ r. ⌜ Does (workCall (formulaOf f) part p c row block (now (out .entry)) (now (squarings .entry))) (answerOf r) (now (out .exit) ∷ now (squarings .exit) ∷ []) ⌝ }
+    ensures { λ r. ⌜
+        Does (workCall (formulaOf f) part p c row block (now (out .entry)) (now (squarings .entry))) (answerOf r)
+        (now (out .exit) ∷ now (squarings .exit) ∷ [])
+        ⌝ }
 {
     match test_part(f, p, c, row, block, both_sized(out, squarings)) {
         Answer::Finished(value) => {
