@@ -61,8 +61,6 @@ unfolding markIn
 bits-are-marks lim s =
     all-ext (lim .rows) _ _ (λ row h. all-ext (blocksIn s) _ _ (λ block l. rw (is-ticket lim (blocksIn s) row block h l) refl))
 
--- ---- the refusals, in order
-
 -- ---- the tests in their order
 
 last-test : (c : Bool) → refusal ((9 ⇐ c) ∷ []) ≡ cond c 9 0
