@@ -316,17 +316,28 @@ static void open_ledger(void)
     finished("open", bbp_open(1, BLOCKS, ledger, sizeof ledger));
 }
 
+/* The block count of the ledgers. */
+static uint64_t blocks;
+
 static void open_ledgers(void)
 {
     for (int i = 0; i < LEDGERS; i++)
-        finished("open", bbp_open(1, BLOCKS, ledgers[i], sizeof ledgers[i]));
+        finished("open", bbp_open(1, blocks, ledgers[i], sizeof ledgers[i]));
 }
 
-/* One post is too short for the clock. */
+/* One post is too short for the clock, and so is a closing that is refused. */
 static void post_one_each(void)
 {
     for (int i = 0; i < LEDGERS; i++)
-        finished("post", bbp_post(ledgers[i], sizeof ledgers[i], 1, BLOCKS, 3, 100, sums, 16));
+        finished("post", bbp_post(ledgers[i], sizeof ledgers[i], 1, blocks, 3, blocks / 2, sums, 16));
+}
+
+static void close_each_unfinished(void)
+{
+    uint8_t digits[BBP_DIGITS_SIZE];
+    for (int i = 0; i < LEDGERS; i++)
+        if (bbp_close(ledgers[i], sizeof ledgers[i], digits, sizeof digits) != -8)
+            abort();
 }
 
 static void post_all(void)
@@ -385,12 +396,26 @@ static void compare_look(void)
     printf("%-52s %9.3f\n", "looking / posting", look / post);
 }
 
+/* The marks that a call asks for depend on the block count. */
+static void time_counts(void)
+{
+    static const uint64_t counts[] = {1, 16, BLOCKS};
+    char what[64];
+    for (int i = 0; i < 3; i++) {
+        blocks = counts[i];
+        snprintf(what, sizeof what, "posting one ticket, C = %d", (int)blocks);
+        time_calls(what, LEDGERS, open_ledgers, post_one_each);
+        snprintf(what, sizeof what, "closing that ledger, refused, C = %d", (int)blocks);
+        time_calls(what, LEDGERS, nothing, close_each_unfinished);
+    }
+}
+
 static void compare_books(void)
 {
     for (uint64_t i = 0; i < BBP_ROWS * BLOCKS; i++)
         list[2 * i] = (uint8_t)i, list[2 * i + 1] = (uint8_t)(i / 256);
     finished("sheet write", bbp_sheet_write(1, BLOCKS, list, sizeof list, sheet, sizeof sheet));
-    time_calls("posting one ticket", LEDGERS, open_ledgers, post_one_each);
+    time_counts();
     time_calls("post of all 1,792 tickets, one by one", 1, open_ledger, post_all);
     time_calls("reading a sheet of 1,792 tickets", 1, nothing, read_sheet);
     compare_look();
