@@ -41,7 +41,7 @@ pub fn total_after(f: Series, ledger: &[u8], s: &[u8]) -> Wide
     let mut total = ledger::sums::total(ledger::sums::get(f, ledger));
     let mut i = 0;
     while i < e {
-        total = words::add(total, words::get_wide(s, 16 + 4 * e + 16 * i));
+        total = words::add(total, sheet::contents::body(s, e, i));
         i += 1;
     }
     total

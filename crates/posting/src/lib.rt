@@ -79,7 +79,7 @@ pub fn enter_all(f: Series, ledger: &mut [u8], s: &[u8])
     let mut i = 0;
     while i < e {
         let row = contents::row(s, i) as usize;
-        let sum = words::get_wide(s, 16 + 4 * e + 16 * i);
+        let sum = contents::body(s, e, i);
         sums[row] = words::add(sums[row], sum);
         ledger::marks::set_bit(f, ledger, row, contents::block(s, i) as usize);
         i += 1;

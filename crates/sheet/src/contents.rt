@@ -2,11 +2,14 @@
 use run::Answer;
 use run::Refusal;
 use series::Series;
+use words::Wide;
 ghost use mathlib.Core.Path.{_≡_};
 ghost use Prim.Native.Nat.{_+_, _*_, _≤_, _<_};
 ghost use lib.Dec.{eqb};
 ghost use lib.ListN.{length, getD};
 ghost use Rattle.algebra.specs.Test.{allBelow};
+ghost use Rattle.words.specs.Bytes.{field};
+ghost use Rattle.words.specs.Words.{joined};
 ghost use Rattle.series.specs.Names.{formulaOf};
 ghost use Rattle.run.specs.Refusal.{tested};
 ghost use Rattle.run.specs.Run.{limitsOf};
@@ -62,6 +65,14 @@ pub fn key(s: &[u8], i: usize) -> u64
     ensures { λ r. ⌜ r ≡ 256 * rowIn (now (s .entry)) i + blockIn (now (s .entry)) i ⌝ }
 {
     256 * row(s, i) + block(s, i)
+}
+
+// The sum of ticket i, where the contents have e.
+pub fn body(s: &[u8], e: usize, i: usize) -> Wide
+    requires { ⌜ (i < e) × (16 + 20 * e ≤ length (now s)) ⌝ }
+    ensures { λ r. ⌜ joined (r .hi) (r .lo) ≡ field (now (s .entry)) (16 + 4 * e + 16 * i) 16 ⌝ }
+{
+    words::get_wide(s, 16 + 4 * e + 16 * i)
 }
 
 // Whether the zero byte of each of e entries is zero.

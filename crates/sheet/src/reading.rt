@@ -55,7 +55,7 @@ pub fn put_sums(s: &[u8], e: usize, sums: &mut [u8])
 {
     let mut i = 0;
     while i < e {
-        words::put_wide(sums, 16 * i, words::get_wide(s, 16 + 4 * e + 16 * i));
+        words::put_wide(sums, 16 * i, contents::body(s, e, i));
         i += 1;
     }
 }

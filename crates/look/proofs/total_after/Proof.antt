@@ -36,23 +36,11 @@ total-requires c κs = search needs
 loop-holds : tie.Need-loop-holds Inv-loop μ-loop
 loop-holds c = (omega arith, total-start _ _ _ _ (c .total .ensures))
 
-mul-get-wide : tie.Need-mul-get-wide Inv-loop μ-loop
-mul-get-wide c = omega arith
-
-add-get-wide : tie.Need-add-get-wide Inv-loop μ-loop
-add-get-wide c = omega arith
-
-mul-get-wide-2 : tie.Need-mul-get-wide-2 Inv-loop μ-loop
-mul-get-wide-2 c = omega arith
-
-add-get-wide-2 : tie.Need-add-get-wide-2 Inv-loop μ-loop
-add-get-wide-2 c = omega arith
-
-get-wide-requires : tie.Need-get-wide-requires Inv-loop μ-loop
-get-wide-requires c κs =
+body-requires : tie.Need-body-requires Inv-loop μ-loop
+body-requires c κs =
     let count = c .before .before .before .before in
     let t = is-taken _ _ _ (count .before .before .before .pre) .whole in
-    omega (arith, t, count .count .ensures .0, c .loop-test .taken)
+    (omega arith, omega (arith, t, count .count .ensures .0))
 
 add-requires : tie.Need-add-requires Inv-loop μ-loop
 add-requires c κs = search needs
@@ -66,7 +54,7 @@ loop-less c = omega arith
 loop-again : tie.Need-loop-again Inv-loop μ-loop
 loop-again c =
     let read = c .before in
-    (omega arith, total-turn _ _ _ _ _ _ _ (read .before .before .loop .inv .1) (read .get-wide .ensures) (c .add .ensures))
+    (omega arith, total-turn _ _ _ _ _ _ _ (read .before .before .loop .inv .1) (read .body .ensures) (c .add .ensures))
 
 returns : tie.Need-returns Inv-loop μ-loop
 unfolding AllBytes
@@ -92,11 +80,7 @@ total-after-spec =
     get-requires
     total-requires
     loop-holds
-    mul-get-wide
-    add-get-wide
-    mul-get-wide-2
-    add-get-wide-2
-    get-wide-requires
+    body-requires
     add-requires
     add-i
     loop-less

@@ -41,20 +41,8 @@ loop-holds c =
 row-requires : tie.Need-row-requires Inv-loop μ-loop
 row-requires c κs = omega arith
 
-mul-get-wide : tie.Need-mul-get-wide Inv-loop μ-loop
-mul-get-wide c = omega arith
-
-add-get-wide : tie.Need-add-get-wide Inv-loop μ-loop
-add-get-wide c = omega arith
-
-mul-get-wide-2 : tie.Need-mul-get-wide-2 Inv-loop μ-loop
-mul-get-wide-2 c = omega arith
-
-add-get-wide-2 : tie.Need-add-get-wide-2 Inv-loop μ-loop
-add-get-wide-2 c = omega arith
-
-get-wide-requires : tie.Need-get-wide-requires Inv-loop μ-loop
-get-wide-requires c κs = omega arith
+body-requires : tie.Need-body-requires Inv-loop μ-loop
+body-requires c κs = (omega arith, omega arith)
 
 array-copy-out-add : tie.Need-array-copy-out-add Inv-loop μ-loop
 array-copy-out-add c =
@@ -118,7 +106,7 @@ loop-again c =
       search needs,
       search needs,
       turn _ _ _ _ counted (given .ascends) (given .sized) (given .placed) (given .new) _ (valueAt (loop .loop .sums)) _ _ _ (loop .loop .inv .3) (loop .loop .inv .1)
-          (test .loop-test .taken) (row .row .ensures .0) (block .block .ensures .0) _ _ _ (read .get-wide .ensures)
+          (test .loop-test .taken) (row .row .ensures .0) (block .block .ensures .0) _ _ _ (read .body .ensures)
           (one-added (loop .loop .sums) _ _ _ inside (added .add .ensures)) (marked .set-bit .ensures),
     )
 
@@ -152,11 +140,7 @@ enter-all-spec =
     get-requires
     loop-holds
     row-requires
-    mul-get-wide
-    add-get-wide
-    mul-get-wide-2
-    add-get-wide-2
-    get-wide-requires
+    body-requires
     mul-add
     array-copy-out-add
     add-requires

@@ -50,20 +50,8 @@ loop-holds c =
 mul-put-wide : tie.Need-mul-put-wide Inv-loop μ-loop
 mul-put-wide c = omega arith
 
-mul-get-wide : tie.Need-mul-get-wide Inv-loop μ-loop
-mul-get-wide c = omega arith
-
-add-get-wide : tie.Need-add-get-wide Inv-loop μ-loop
-add-get-wide c = omega arith
-
-mul-get-wide-2 : tie.Need-mul-get-wide-2 Inv-loop μ-loop
-mul-get-wide-2 c = omega arith
-
-add-get-wide-2 : tie.Need-add-get-wide-2 Inv-loop μ-loop
-add-get-wide-2 c = omega arith
-
-get-wide-requires : tie.Need-get-wide-requires Inv-loop μ-loop
-get-wide-requires c κs = omega arith
+body-requires : tie.Need-body-requires Inv-loop μ-loop
+body-requires c κs = (omega arith, omega arith)
 
 put-wide-requires : tie.Need-put-wide-requires Inv-loop μ-loop
 put-wide-requires c κs = omega arith
@@ -82,7 +70,7 @@ loop-again c =
     let given = loop .before .before .before in (
       omega arith,
       search needs,
-      next (now (given .args .s)) (now (given .args .sums)) (given .args .e) _ _ _ _ (given .pre .0) (test .loop-test .taken) (put .before .get-wide .ensures)
+      next (now (given .args .s)) (now (given .args .sums)) (given .args .e) _ _ _ _ (given .pre .0) (test .loop-test .taken) (put .before .body .ensures)
           (loop .loop .inv .2) (put .put-wide .ensures),
     )
 
@@ -103,11 +91,7 @@ put-sums-spec =
     μ-loop
     loop-holds
     mul-put-wide
-    mul-get-wide
-    add-get-wide
-    mul-get-wide-2
-    add-get-wide-2
-    get-wide-requires
+    body-requires
     put-wide-requires
     add-i
     loop-less
