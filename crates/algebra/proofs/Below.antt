@@ -8,7 +8,7 @@ use native.Mathlib.Nat.{not-suc-le-zero}
 use native.Mathlib.Numerals.{add-one}
 use native.Mathlib.Omega.{arith}
 use Rattle.algebra.specs.Test.{allBelow}
-use Rattle.algebra.proofs.Booleans.{and-left, and-right, and-both, and-false, below-or}
+use Rattle.algebra.proofs.Booleans.{and-left, and-right, and-both, and-false, not-both, below-or}
 
 pub all-true : (n : ℕ) (f : ℕ → Bool) → ((i : ℕ) → i < n → f i ≡ true) → allBelow n f ≡ true
 unfolding allBelow
@@ -35,6 +35,17 @@ below-false (suc n) f i h e = ⊎-elim
     (λ l. ap (λ (b : Bool). f n && b) (below-false n f i l e) ∙ and-false (f n))
     (λ q. ap (λ (k : ℕ). f k && allBelow n f) (sym q) ∙ ap (λ (b : Bool). b && allBelow n f) e)
     (below-or i n h)
+
+-- one that fails is found where they do not all hold
+pub fails-at : (n : ℕ) (f : ℕ → Bool) → allBelow n f ≡ false → (i : ℕ) × (i < n) × (f i ≡ false)
+unfolding allBelow
+fails-at zero f e = absurd (not-both true refl e)
+fails-at (suc n) f e = go (f n) refl (λ t. fails-at n f t) e
+  where
+    go : (b : Bool) → f n ≡ b → (allBelow n f ≡ false → (i : ℕ) × (i < n) × (f i ≡ false)) → (b && allBelow n f) ≡ false
+        → (i : ℕ) × (i < suc n) × (f i ≡ false)
+    go true q below t = let i = below t in let h = i .1 in (i .0, omega arith, i .2)
+    go false q below t = (n, omega arith, q)
 
 -- the start of a loop, and one turn of it
 pub below-none : (f : ℕ → Bool) → allBelow 0 f ≡ true

@@ -23,6 +23,10 @@ pub and-false : (a : Bool) → (a && false) ≡ false
 and-false true = refl
 and-false false = refl
 
+-- the second of two decides where the first holds
+pub and-second : (a b : Bool) → a ≡ true → b ≡ (a && b)
+and-second a b e = rw e refl
+
 -- one of two that fails
 pub left-fails : (a b : Bool) → a ≡ false → (a && b) ≡ false
 left-fails a b e = rw e refl

@@ -9,10 +9,11 @@ use Rattle.sheet.specs.Calls.{writeCall, readCall}
 use Rattle.posting.specs.Calls.{sheetPostCall}
 use Rattle.look.specs.Look.{lookCall}
 use Rattle.closing.specs.Closing.{closeBy}
-use Rattle.calls.specs.Request.{Request, Work, Quote, Open, Post, WriteSheet, ReadSheet, PostSheet, Look, Close, callOf, lentToWrite}
+use Rattle.overlap.specs.Calls.{overlapCall, overlapPartCall}
+use Rattle.calls.specs.Request.{Request, Work, Quote, Open, Post, WriteSheet, ReadSheet, PostSheet, Look, Close, Overlap, OverlapPart, callOf, lentToWrite}
 
 pub were-lent : (F : Formula) (q : Request) → eachWas (callOf F q .slices) ≡ lentToWrite q
-unfolding workCall quoteCall openCall postCall writeCall readCall sheetPostCall lookCall closeBy
+unfolding workCall quoteCall openCall postCall writeCall readCall sheetPostCall lookCall closeBy overlapCall overlapPartCall
 were-lent F (Work part p C row block sum squarings) = refl
 were-lent F (Quote part p C row block squarings) = refl
 were-lent F (Open p C ledger) = refl
@@ -22,3 +23,5 @@ were-lent F (ReadSheet sheet list sums) = refl
 were-lent F (PostSheet ledger sheet) = refl
 were-lent F (Look ledger sheet total) = refl
 were-lent F (Close ledger digits) = refl
+were-lent F (Overlap first p second q) = refl
+were-lent F (OverlapPart first p second q part) = refl

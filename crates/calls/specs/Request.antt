@@ -13,6 +13,8 @@ use Rattle.ledger.specs.Calls.{openCall, postCall}
 use Rattle.sheet.specs.Calls.{writeCall, readCall}
 use Rattle.posting.specs.Calls.{sheetPostCall}
 use Rattle.look.specs.Look.{lookCall}
+use Rattle.overlap.specs.Strings.{laid}
+use Rattle.overlap.specs.Calls.{overlapCall, overlapPartCall}
 use Rattle.closing.specs.Closing.{closeCall}
 
 pub data Request : Type 0 where
@@ -26,6 +28,9 @@ pub data Request : Type 0 where
   -- for check runs the engine has no look
   Look : (ledger sheet total : List ℕ) → Request
   Close : (ledger digits : List ℕ) → Request
+  -- two strings of digits, each with its position; these are of no formula
+  Overlap : (first : List ℕ) (p : ℕ) (second : List ℕ) (q : ℕ) → Request
+  OverlapPart : (first : List ℕ) (p : ℕ) (second : List ℕ) (q : ℕ) (part : List ℕ) → Request
 
 abbrev pub callOf : Formula → Request → Call
 callOf F (Work part p C row block sum squarings) = workCall F part p C row block sum squarings
@@ -37,6 +42,8 @@ callOf F (ReadSheet sheet list sums) = readCall (limitsOf F) sheet list sums
 callOf F (PostSheet ledger sheet) = sheetPostCall (limitsOf F) ledger sheet
 callOf F (Look ledger sheet total) = lookCall (limitsOf F) ledger sheet total
 callOf F (Close ledger digits) = closeCall F ledger digits
+callOf F (Overlap first p second q) = overlapCall (laid first p) (laid second q)
+callOf F (OverlapPart first p second q part) = overlapPartCall (laid first p) (laid second q) part
 
 -- the slices that a caller lends to be written, in the order of the call's arguments
 abbrev pub lentToWrite : Request → List (List ℕ)
@@ -49,6 +56,8 @@ lentToWrite (ReadSheet sheet list sums) = list ∷ sums ∷ []
 lentToWrite (PostSheet ledger sheet) = ledger ∷ []
 lentToWrite (Look ledger sheet total) = total ∷ []
 lentToWrite (Close ledger digits) = digits ∷ []
+lentToWrite (Overlap first p second q) = []
+lentToWrite (OverlapPart first p second q part) = part ∷ []
 
 -- those that it lends to be read
 abbrev pub lentToRead : Request → List (List ℕ)
@@ -61,6 +70,8 @@ lentToRead (ReadSheet sheet list sums) = sheet ∷ []
 lentToRead (PostSheet ledger sheet) = sheet ∷ []
 lentToRead (Look ledger sheet total) = ledger ∷ sheet ∷ []
 lentToRead (Close ledger digits) = ledger ∷ []
+lentToRead (Overlap first p second q) = first ∷ second ∷ []
+lentToRead (OverlapPart first p second q part) = first ∷ second ∷ []
 
 -- What a function did serves the request: it answered r and left the slices lent to be written as the request's call does, and those lent to be
 -- read as they were.

@@ -2,6 +2,7 @@
 pub mod answers;
 pub mod close;
 pub mod ledgers;
+pub mod overlaps;
 pub mod quotes;
 pub mod sheets;
 pub mod work;

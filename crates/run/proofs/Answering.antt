@@ -12,7 +12,7 @@ use lib.IntN.{pos, negsuc, negℤ}
 use Rattle.run.specs.Refusal.{Test, lastNumber, _⇐_, refusal, answer}
 use Rattle.run.specs.Answers.{numberOf, answerOf}
 use Rattle.run.specs.declared.Refusal.{Refusal}
-use Rattle.run.specs.declared.Refusal.the-variants.{WrongSize, OutOfRange, Malformed, NoTicket, OutOfOrder, OtherRun, Marked, Unmarked, Unsettled}
+use Rattle.run.specs.declared.Refusal.the-variants.{WrongSize, OutOfRange, Malformed, NoTicket, OutOfOrder, OtherRun, Marked, Unmarked, Unsettled, BadString, Apart, Different}
 use Rattle.run.specs.declared.Answer.{Answer}
 use Rattle.run.specs.declared.Answer.the-variants.{Finished, Refused}
 
@@ -75,6 +75,9 @@ in-table OtherRun = (lit< tt, lit≤ tt)
 in-table Marked = (lit< tt, lit≤ tt)
 in-table Unmarked = (lit< tt, lit≤ tt)
 in-table Unsettled = (lit< tt, lit≤ tt)
+in-table BadString = (lit< tt, lit≤ tt)
+in-table Apart = (lit< tt, lit≤ tt)
+in-table Different = (lit< tt, lit≤ tt)
 
 below-zero : (n value : ℕ) → 0 < n → negℤ (pos n) ≡ pos value → ⊥
 below-zero zero value h e = omega arith

@@ -2,7 +2,7 @@
 use Prim.Native.Nat.{ℕ}
 use lib.IntN.{ℤ, pos, negℤ}
 use Rattle.run.specs.declared.Refusal.{Refusal}
-use Rattle.run.specs.declared.Refusal.the-variants.{WrongSize, OutOfRange, Malformed, NoTicket, OutOfOrder, OtherRun, Marked, Unmarked, Unsettled}
+use Rattle.run.specs.declared.Refusal.the-variants.{WrongSize, OutOfRange, Malformed, NoTicket, OutOfOrder, OtherRun, Marked, Unmarked, Unsettled, BadString, Apart, Different}
 use Rattle.run.specs.declared.Answer.{Answer}
 use Rattle.run.specs.declared.Answer.the-variants.{Finished, Refused}
 
@@ -16,6 +16,9 @@ numberOf OtherRun = 6
 numberOf Marked = 7
 numberOf Unmarked = 8
 numberOf Unsettled = 9
+numberOf BadString = 10
+numberOf Apart = 11
+numberOf Different = 12
 
 abbrev pub answerOf : Answer → ℤ
 answerOf (Finished value) = pos value

@@ -1,4 +1,4 @@
--- The refusal table: numbered conditions, of which the smallest that applies is given. Document 01, "Refusal table".
+-- The refusal table: numbered conditions, of which the smallest that applies is given. Document 01, "Refusal table"; document 02 adds numbers to it.
 use mathlib.Core.Path.{_≡_}
 use mathlib.Core.Bool.{Bool, true, not, cond, _&&_}
 use mathlib.Core.List.{List, [], _∷_, List·Memᴰ}
@@ -8,7 +8,7 @@ use lib.IntN.{ℤ, pos, negsuc}
 
 -- the last number of the table
 abbrev pub lastNumber : ℕ
-lastNumber = 9
+lastNumber = 12
 
 -- A condition with its number.
 pub record Test : Type 0 where

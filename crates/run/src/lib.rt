@@ -9,7 +9,7 @@ ghost use Rattle.run.specs.Run as definition;
 ghost use Rattle.run.specs.Tests.{ofTicket};
 ghost use Rattle.run.specs.Answers.{numberOf, answerOf};
 
-// The refusals that document 01 numbers from 1 to 9.
+// The refusals, in the order of their numbers: those of document 01 from 1 to 9, those of document 02 from 10 on.
 pub enum Refusal {
     WrongSize,
     OutOfRange,
@@ -20,6 +20,9 @@ pub enum Refusal {
     Marked,
     Unmarked,
     Unsettled,
+    BadString,
+    Apart,
+    Different,
 }
 
 // What a call answers: its value (0, or the length, e or d), or a refusal.
@@ -42,6 +45,9 @@ pub fn number_of(r: Refusal) -> u64
         Refusal::Marked => 7,
         Refusal::Unmarked => 8,
         Refusal::Unsettled => 9,
+        Refusal::BadString => 10,
+        Refusal::Apart => 11,
+        Refusal::Different => 12,
     }
 }
 

@@ -7,20 +7,14 @@ use Prim.Native.Nat.{ℕ, _+_, _*_, _/_, _%_, _<_, _≤_}
 use native.Mathlib.Numerals.{add-one}
 use native.Mathlib.Omega.{arith}
 use lib.ListN.{length, getD, take, drop, length-append, take-append-drop}
-use lib.Seq.{take-at, take-all, take-suc, drop-at, drop-drop, length-take-le}
+use lib.Seq.{take-all, take-suc, length-take-le}
 use Rattle.words.specs.Bytes.{bytesOf}
+use Rattle.words.proofs.Bytes.{write-next}
 use Rattle.run.specs.Run.{Entry}
 use Rattle.sheet.specs.Sheet.{key, line, contentsOf, bodiesOf, listOf}
 use Rattle.sheet.specs.Calls.{over}
 use Rattle.sheet.proofs.Sheets.{length-contents, length-list, length-bodies}
 use Rattle.sheet.proofs.Each.{nothing}
-
--- x written after what is written already, which is n bytes
-pub write-next : (done old l x : List ℕ) (n w : ℕ) → length done ≡ n → l ≡ done ++ drop n old
-    → take n l ++ x ++ drop (n + w) l ≡ done ++ x ++ drop (n + w) old
-write-next done old l x n w h e =
-    ap₂ (λ (a b : List ℕ). a ++ x ++ b) (ap (take n) e ∙ take-at done (drop n old) n h)
-    (sym (drop-drop w n l) ∙ ap (drop w) (ap (drop n) e ∙ drop-at done (drop n old) n h) ∙ drop-drop w n old)
 
 -- ---- texts that are made entry by entry, w bytes for each
 

@@ -147,6 +147,15 @@ field-written a b at w x h l =
     ap valueOf (ap (take w) (ap (drop at) (append-assoc a (bytesOf w x) b) ∙ drop-at a (bytesOf w x ++ b) at h) ∙ take-at (bytesOf w x) b w (length-bytes w x))
     ∙ value-bytes w x l
 
+-- ---- one after the other
+
+-- x written after what is written already, which is n bytes
+pub write-next : (done old l x : List ℕ) (n w : ℕ) → length done ≡ n → l ≡ done ++ drop n old
+    → take n l ++ x ++ drop (n + w) l ≡ done ++ x ++ drop (n + w) old
+write-next done old l x n w h e =
+    ap₂ (λ (a b : List ℕ). a ++ x ++ b) (ap (take n) e ∙ take-at done (drop n old) n h)
+    (sym (drop-drop w n l) ∙ ap (drop w) (ap (drop n) e ∙ drop-at done (drop n old) n h) ∙ drop-drop w n old)
+
 -- ---- loops
 
 pub field-none : (s : List ℕ) (at : ℕ) → field s at 0 ≡ 0

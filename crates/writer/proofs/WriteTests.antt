@@ -11,6 +11,7 @@ use lib.IntN.{pos, negsuc}
 use lib.ListN.{length, take, drop, length-append}
 use Rattle.algebra.proofs.Booleans.{and-both, left-fails, right-fails}
 use Rattle.words.specs.Bytes.{bytesOf}
+use Rattle.words.proofs.Bytes.{write-next}
 use Rattle.series.specs.Series.{Formula}
 use Rattle.run.specs.Refusal.{tested}
 use Rattle.run.specs.Run.{Entry, limitsOf}
@@ -27,7 +28,6 @@ use Rattle.sheet.specs.Tests.{listSized, ofList}
 use Rattle.sheet.specs.Calls.{over, writeTests, writeCall}
 use Rattle.sheet.proofs.Many.{count-listed}
 use Rattle.sheet.proofs.Sheets.{length-contents, length-sheet}
-use Rattle.sheet.proofs.Over.{write-next}
 use Rattle.sheet.proofs.Form.{Writable, writable}
 
 -- head, contents and bodies, written one after the other, are the sheet

@@ -7,7 +7,7 @@ use borrow.Author.Needs.{needs}
 use denote.Ref.{now}
 use lib.ListN.{take, drop}
 use Rattle.words.specs.Bytes.{bytesOf}
-use Rattle.sheet.proofs.Over.{write-next}
+use Rattle.words.proofs.Bytes.{write-next}
 use Rattle.sheet.proofs.layout.put_head.Statement.{statement}
 use Rattle.sheet.proofs.layout.put_head.Tie as tie
 

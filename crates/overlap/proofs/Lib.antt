@@ -1,0 +1,4 @@
+pub mod Strings
+pub mod Parts
+pub mod Placed
+

@@ -1,0 +1,3 @@
+pub mod Strings
+pub mod Calls
+pub mod Overlaps
