@@ -1,4 +1,4 @@
 pub mod Strings
 pub mod Parts
 pub mod Placed
-
+pub mod Overlaps

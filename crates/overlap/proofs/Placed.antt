@@ -15,7 +15,7 @@ use borrow.Rule.Slice.Shared.{byByte}
 use borrow.Rule.Slice.PartAt.{slPart, part-to-end}
 use Rattle.algebra.proofs.Booleans.{and-left, and-right, and-both}
 use Rattle.words.specs.Bytes.{bytesOf}
-use Rattle.run.specs.Refusal.{refusal}
+use Rattle.run.specs.Refusal.{refusal, answer}
 use Rattle.run.specs.Call.{answered, refusedBy, allLeft, Does}
 use Rattle.run.specs.Answers.{answerOf}
 use Rattle.run.specs.declared.Refusal.{Refusal}
@@ -168,6 +168,10 @@ module _ (a b : Laid) (out : List ℕ) where
     same-number : refusedBy (overlapPartCall a b out) ≡ refusedWith a b
     unfolding overlapPartCall overlapCall overlapPartTests refusedBy refusal
     same-number = rw (eq-eqb (length out) 24 room) refl
+
+    pub same-answer : answered (overlapPartCall a b out) ≡ answered (overlapCall a b)
+    unfolding overlapPartCall overlapCall answered
+    same-answer = ap (λ (n : ℕ). answer n 0) same-number
 
     pub written : refusedWith a b ≡ 0 → (new : List ℕ) → new ≡ placeBytes (partPlace a b) (length (partOf a b))
         → Does (overlapPartCall a b out) (pos 0) (new ∷ [])
