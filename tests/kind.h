@@ -2,8 +2,8 @@
  * The kind of runs that a test program tries. Each is built twice, from the
  * same source: for Bellard's runs, and with CHECK_RUN defined for check runs
  * (document 02, slip 4). A call that check runs have not, and its test, are for
- * Bellard's runs alone. The numbers are the tests' own; the header's have to be
- * the same.
+ * Bellard's runs alone; a call for digits is of no kind, and its test is built as
+ * theirs. The numbers are the tests' own; the header's have to be the same.
  */
 #ifndef KIND_H
 #define KIND_H
