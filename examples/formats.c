@@ -259,8 +259,8 @@ static void print_overlaps(void)
     static const struct digits some = {4, 8, "F6A8885A"};
     printf("two closings: position, d, digits\n");
     const struct digits closing = close_at(&examples[BELLARD], P), check = close_at(&examples[CHECK], LATER_P);
-    print_part("place of the part, the check closing laid over the other", &closing, &check);
-    print_part("place of the part, F6A8885A at position 4 and the first closing", &some, &closing);
+    print_part("place of the part of these two", &closing, &check);
+    print_part("place of the part of F6A8885A at position 4 and the first of them", &some, &closing);
 }
 
 int main(void)
