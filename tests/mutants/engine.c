@@ -1341,15 +1341,15 @@ static int has_more(const string *first, const string *second)
 /* Whether the digits differ at a shared position, as far as they are compared. */
 static int is_different(const string *first, const string *second, const shared *s)
 {
-    size_t from = WRONG(322) ? 1 : 0, end = WRONG(323) ? s->count - 1 : s->count, off = WRONG(324) ? 1 : 0;
-    size_t differences = has_more(first, second) ? 1 : 0;
+    size_t from = WRONG(322) ? 1 : 0, end = WRONG(323) ? s->count - 1 : s->count, differences = has_more(first, second) ? 1 : 0;
+    size_t in_first = WRONG(377) ? 0 : s->in_first, in_second = WRONG(377) ? 0 : s->in_second + (WRONG(324) ? 1 : 0);
     const uint8_t bits = WRONG(325) ? 15 : 255;
     if (WRONG(326) && end > 16)
         end = 16;
-    if (s->in_second + end + off > second->len)
-        end = second->len - off - s->in_second;
+    if (in_second + end > second->len)
+        end = second->len - in_second;
     for (size_t i = from; i < end; i++)
-        differences += ((first->digits[s->in_first + i] ^ second->digits[s->in_second + i + off]) & bits) != 0;
+        differences += ((first->digits[in_first + i] ^ second->digits[in_second + i]) & bits) != 0;
     return differences > (WRONG(327) ? 1 : 0);
 }
 
