@@ -91,8 +91,6 @@ static int64_t wanted_answer(void)
 
 /* Named cases. */
 
-#define PI "243F6A8885A308D313198A2E037073"
-
 static const struct {
     const char *what;
     int64_t answer;

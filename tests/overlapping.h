@@ -12,6 +12,9 @@
 enum { MOST_DIGITS = 30, STRING_ROOM = MOST_DIGITS + 64 };
 #define LAST_START (UINT64_C(1) << 60)
 
+/* The thirty digits of pi at position 1. */
+#define PI "243F6A8885A308D313198A2E037073"
+
 /* A string as it is handed to a call: GIVEN(s) are its three arguments. */
 struct string {
     const uint8_t *digits;

@@ -26,6 +26,11 @@ static uint64_t which(const uint8_t *found)
     return ref_load(found, 8);
 }
 
+static uint64_t offset(const uint8_t *found)
+{
+    return ref_load(found + 8, 8);
+}
+
 static uint64_t part_length(const uint8_t *found)
 {
     return ref_load(found + 16, 8);
@@ -33,7 +38,7 @@ static uint64_t part_length(const uint8_t *found)
 
 static const uint8_t *digits_of(const uint8_t *found, const struct string *first, const struct string *second)
 {
-    return (which(found) ? second : first)->digits + ref_load(found + 8, 8);
+    return (which(found) ? second : first)->digits + offset(found);
 }
 
 /* Makes the call into bytes that hold what is lent, and compares with the reference; gives the answer. */
@@ -46,8 +51,11 @@ static int64_t place(const struct string *first, const struct string *second, ui
     int64_t answer = bbp_overlap_part(GIVEN(first), GIVEN(second), found, part_len);
     CHECK(answer == wanted_answer, "%zu digits at %" PRIu64 ", %zu at %" PRIu64 ", a part of %zu: the answer is %" PRId64
           " and not %" PRId64, first->len, first->p, second->len, second->p, part_len, answer, wanted_answer);
-    CHECK(memcmp(found, wanted, PART_ROOM) == 0, "%zu digits at %" PRIu64 ", %zu at %" PRIu64 ", answer %" PRId64
-          ": the bytes of the part", first->len, first->p, second->len, second->p, answer);
+    CHECK(memcmp(found, wanted, PART_SIZE) == 0, "%zu digits at %" PRIu64 ", %zu at %" PRIu64 ", answer %" PRId64
+          ": the part is %" PRIu64 ", %" PRIu64 ", %" PRIu64 " and not %" PRIu64 ", %" PRIu64 ", %" PRIu64, first->len, first->p,
+          second->len, second->p, answer, which(found), offset(found), part_length(found), which(wanted), offset(wanted),
+          part_length(wanted));
+    CHECK(memcmp(found, wanted, PART_ROOM) == 0, "a byte behind the part was changed");
     return answer;
 }
 
@@ -56,7 +64,7 @@ static void expect_same_part(const uint8_t *found, const uint8_t *swapped, const
                              const struct string *second)
 {
     int end_together = first->p + first->len == second->p + second->len;
-    CHECK(which(swapped) == (end_together ? 0 : 1 - which(found)), "strings swapped: number %" PRIu64 " and then %" PRIu64,
+    CHECK(which(swapped) == (end_together ? 0 : 1 - which(found)), "strings swapped: string %" PRIu64 " and then %" PRIu64,
           which(found), which(swapped));
     CHECK(part_length(found) == part_length(swapped), "strings swapped: a part of %" PRIu64 " and then of %" PRIu64,
           part_length(found), part_length(swapped));
@@ -71,30 +79,20 @@ static int64_t overlap_part(const struct string *first, const struct string *sec
     return place(first, second, found);
 }
 
-/* The call beside overlap, and with the strings swapped. */
-static int64_t overlap_part_swapped(const struct string *first, const struct string *second)
+/* The call with the part lent as well, beside overlap, and with the strings swapped. */
+static int64_t overlap_lent_part(const struct string *first, const struct string *second)
 {
-    uint8_t found[PART_ROOM], swapped[PART_ROOM];
-    int64_t answer = place(first, second, found), alone = bbp_overlap(GIVEN(first), GIVEN(second));
+    uint8_t found[PART_ROOM], swapped[PART_ROOM], *lent = lend(2, part, part_len);
+    int64_t answer = bbp_overlap_part(GIVEN(first), GIVEN(second), lent, part_len);
+    int64_t alone = bbp_overlap(GIVEN(first), GIVEN(second));
+    CHECK(place(first, second, found) == answer, "a part of %zu, lent: the answer is %" PRId64, part_len, answer);
+    expect(2, found, "the part");
     CHECK(answer == (part_len == PART_SIZE ? alone : -1), "a part of %zu: the answer is %" PRId64 ", overlap's is %" PRId64,
           part_len, answer, alone);
     CHECK(place(second, first, swapped) == answer, "strings swapped: not the same answer");
     if (answer == 0)
         expect_same_part(found, swapped, first, second);
     return answer;
-}
-
-/* The part is lent as well. */
-static int64_t overlap_lent_part(const struct string *first, const struct string *second)
-{
-    uint8_t wanted[PART_ROOM], *found = lend(2, part, part_len);
-    memcpy(wanted, part, PART_ROOM);
-    int64_t wanted_answer = ref_overlap_part(GIVEN(first), GIVEN(second), wanted, part_len);
-    CHECK(bbp_overlap_part(GIVEN(first), GIVEN(second), found, part_len) == wanted_answer,
-          "%zu digits at %" PRIu64 ", %zu at %" PRIu64 ", a part of %zu, lent: the answer is not %" PRId64, first->len,
-          first->p, second->len, second->p, part_len, wanted_answer);
-    expect(2, wanted, "the part");
-    return overlap_part_swapped(first, second);
 }
 
 static int64_t compare(void)
@@ -118,8 +116,6 @@ static int damage(int kind)
     }
 }
 
-#define PI "243F6A8885A308D313198A2E037073"
-
 /* Parts with their numbers and their digits. */
 static const struct {
     const char *what, *first;
@@ -142,7 +138,8 @@ static const struct {
     {"one shared position, the first further", "3F6A", 3, "243", 1, 0, 0, 4, "3F6A"},
     {"the longer string reaches less far", "243F6A888", 1, "885", 8, 1, 0, 3, "885"},
     {"the first starts later and is shorter", "885", 8, "243F6A888", 1, 0, 0, 3, "885"},
-    {"past 2^60", "243", LAST_START - 1, "43F6A8885A", LAST_START, 1, 0, 10, "43F6A8885A"},
+    {"past 2^60", "243", LAST_START - 1, "43F6", LAST_START, 1, 0, 4, "43F6"},
+    {"past 2^60, the first further", "43F6", LAST_START, "243", LAST_START - 1, 0, 0, 4, "43F6"},
     {"past 2^60, the first inside the second", "3F", LAST_START, "243F6A88", LAST_START - 2, 1, 2, 6, "3F6A88"},
     {"29 positions on, the second further", PI, 1, "344A40938222", 30, 1, 0, 12, "344A40938222"},
 };
@@ -159,7 +156,7 @@ static void every_named_part(void)
         put(wanted + 16, 8, parts[i].length);
         CHECK(compare() == 0 && place(&laid[0], &laid[1], found) == 0, "%s: the answer", parts[i].what);
         CHECK(memcmp(found, wanted, PART_ROOM) == 0, "%s: %" PRIu64 ", %" PRIu64 ", %" PRIu64, parts[i].what, which(found),
-              ref_load(found + 8, 8), part_length(found));
+              offset(found), part_length(found));
         CHECK(memcmp(digits_of(found, &laid[0], &laid[1]), parts[i].digits, strlen(parts[i].digits)) == 0, "%s: the digits",
               parts[i].what);
     }
