@@ -51,11 +51,9 @@ static int64_t place(const struct string *first, const struct string *second, ui
     int64_t answer = bbp_overlap_part(GIVEN(first), GIVEN(second), found, part_len);
     CHECK(answer == wanted_answer, "%zu digits at %" PRIu64 ", %zu at %" PRIu64 ", a part of %zu: the answer is %" PRId64
           " and not %" PRId64, first->len, first->p, second->len, second->p, part_len, answer, wanted_answer);
-    CHECK(memcmp(found, wanted, PART_SIZE) == 0, "%zu digits at %" PRIu64 ", %zu at %" PRIu64 ", answer %" PRId64
-          ": the part is %" PRIu64 ", %" PRIu64 ", %" PRIu64 " and not %" PRIu64 ", %" PRIu64 ", %" PRIu64, first->len, first->p,
-          second->len, second->p, answer, which(found), offset(found), part_length(found), which(wanted), offset(wanted),
-          part_length(wanted));
-    CHECK(memcmp(found, wanted, PART_ROOM) == 0, "a byte behind the part was changed");
+    size_t i = first_difference(found, wanted, PART_ROOM);
+    CHECK(i == PART_ROOM, "%zu digits at %" PRIu64 ", %zu at %" PRIu64 ", answer %" PRId64 ": byte %zu of the part is not %02x",
+          first->len, first->p, second->len, second->p, answer, i, wanted[i % PART_ROOM]);
     return answer;
 }
 
