@@ -32,11 +32,12 @@ COUNT = 3000
 LONG = 1000000000 10000000000 100000000000
 PROCESSES =
 
-# The calls of the engine: those that Bellard's runs and check runs have alike, and those of Bellard's runs alone. test_CALL
-# tests one, and test_check_CALL the one of check runs.
+# The calls of the engine: those that Bellard's runs and check runs have alike, those of Bellard's runs alone, and those for
+# digits, which are of no formula. test_CALL tests one, and test_check_CALL the one of check runs.
 CALLS = work work_lower work_upper quote quote_lower quote_upper open post sheet_write sheet_read sheet_post close
 BELLARD_CALLS = look
-SYMBOLS = $(CALLS:%=bbp_%) $(BELLARD_CALLS:%=bbp_%) $(CALLS:%=bbp_check_%)
+DIGIT_CALLS = overlap overlap_part
+SYMBOLS = $(CALLS:%=bbp_%) $(BELLARD_CALLS:%=bbp_%) $(DIGIT_CALLS:%=bbp_%) $(CALLS:%=bbp_check_%)
 
 # A text as one word of the shell, whatever is in it but a newline.
 quoted = '$(subst ','\'',$(1))'
@@ -59,11 +60,11 @@ PROGRAM_FLAGS = $(WARN) $(INCLUDE) $(CFLAGS)
 
 # Tests that are built for each kind of runs, and all tests.
 OF_A_KIND = $(CALLS) refusals tickets halves list
-TESTS = $(OF_A_KIND) $(BELLARD_CALLS) $(OF_A_KIND:%=check_%) kinds
+TESTS = $(OF_A_KIND) $(BELLARD_CALLS) $(DIGIT_CALLS) $(OF_A_KIND:%=check_%) kinds
 
 # What a test is linked with: of its kind, and of both.
-SUPPORT = common sheets postings vectors working quoting
-REFERENCE = reference reference_close reference_quote
+SUPPORT = common sheets postings vectors working quoting overlapping
+REFERENCE = reference reference_close reference_quote reference_overlap
 HEADERS = $(wildcard include/*.h tests/*.h examples/*.h bench/*.h)
 
 # The stand-in keeps the number of the way in which it is wrong, and has no closing program.

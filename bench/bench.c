@@ -5,8 +5,9 @@
  * ticket and turn by turn. Figures say nothing about whether answers are right;
  * the sums are compared all the same, so that equal work is timed. The engine
  * counts its squarings as it works, the C does not. Last come the quotes at the
- * last position, and the stack that a half takes. Lines of check runs start with
- * the word `check`; the calls that keep books are timed by Bellard's.
+ * last position, digits laid over each other, and the stack that a half takes.
+ * Lines of check runs start with the word `check`; the calls that keep books are
+ * timed by Bellard's.
  */
 #define _POSIX_C_SOURCE 200809L
 
@@ -23,7 +24,7 @@
 #include "program.h"
 #include "ways.h"
 
-enum { BLOCKS = 256, LEDGERS = 64, QUOTES = 64, MULTIPLICATIONS = 10000000, STACK = 1 << 20, UNTOUCHED = 0xA5 };
+enum { BLOCKS = 256, LEDGERS = 64, QUOTES = 64, OVERLAPS = 64, MULTIPLICATIONS = 10000000, STACK = 1 << 20, UNTOUCHED = 0xA5 };
 
 #if !defined WITH_gcc && !defined WITH_clang
 #error "bench/lanes.c is not compiled: neither gcc nor clang was found"
@@ -440,6 +441,45 @@ static void time_quote(int kind)
     time_calls(title, QUOTES, nothing, quote_all);
 }
 
+/* Thirty digits, and those a position on: as they are, and with another one at the last position that both hold. */
+static const char first_digits[] = "243F6A8885A308D313198A2E037073";
+static const struct overlap {
+    const char *second;
+    int64_t answer;
+} agreeing = {"43F6A8885A308D313198A2E0370734", 0}, differing = {"43F6A8885A308D313198A2E0370724", -BBP_REFUSED_DIFFERENT};
+static const struct overlap *overlap;
+
+static void expect_overlap(int64_t answer)
+{
+    if (answer != overlap->answer)
+        abort();
+}
+
+/* One of these calls is too short for the clock. */
+static void overlap_each(void)
+{
+    for (int i = 0; i < OVERLAPS; i++)
+        expect_overlap(bbp_overlap((const uint8_t *)first_digits, 30, 1, (const uint8_t *)overlap->second, 30, 2));
+}
+
+static void place_each(void)
+{
+    uint8_t part[BBP_PART_SIZE];
+    for (int i = 0; i < OVERLAPS; i++)
+        expect_overlap(bbp_overlap_part((const uint8_t *)first_digits, 30, 1, (const uint8_t *)overlap->second, 30, 2, part,
+                                        sizeof part));
+}
+
+static void time_overlaps(void)
+{
+    overlap = &agreeing;
+    time_calls("30 digits over 30, a position apart", OVERLAPS, nothing, overlap_each);
+    time_calls("the same, with the place of the part", OVERLAPS, nothing, place_each);
+    overlap = &differing;
+    time_calls("30 digits over 30, refused at the last shared one", OVERLAPS, nothing, overlap_each);
+    time_calls("the same, with bytes for the part", OVERLAPS, nothing, place_each);
+}
+
 static uint8_t stacks[KINDS][STACK] __attribute__((aligned(4096)));
 static volatile uintptr_t stack_before;
 
@@ -487,6 +527,7 @@ int main(void)
     compare_halves(CHECK);
     time_quote(BELLARD);
     time_quote(CHECK);
+    time_overlaps();
     measure_stack(BELLARD);
     measure_stack(CHECK);
     return 0;

@@ -4,7 +4,9 @@
  * with another block count, and the sums of another run; first of a Bellard run,
  * then the same of a check run, with the word `check` before its titles. A look
  * is there in the Bellard run alone. Then, of both in the same order, the
- * squarings of a ticket and its halves, and the quotes at the last position.
+ * squarings of a ticket and its halves, and the quotes at the last position. Last
+ * come a closing of each kind, laid over each other, and some digits laid over one
+ * of them.
  *
  * Every run that is opened has a block count that is a power of two. The kept
  * ledgers have not: they are made from the layout and not by opening.
@@ -17,7 +19,7 @@
 #include "kinds.h"
 #include "program.h"
 
-enum { P = 1, CHARGED_P = 21, LINE = 16 };
+enum { P = 1, LATER_P = 3, CHARGED_P = 21, LINE = 16 };
 
 struct ticket {
     uint64_t c, row, block;
@@ -126,15 +128,15 @@ static void post_sheet(struct example *example)
     print_ledger(example, "ledger after posting that sheet");
 }
 
-/* Every ticket of a run at P: those that are marked already are refused. */
-static void post_rest(struct example *example, uint64_t c)
+/* Every ticket of a run: those that are marked already are refused. */
+static void post_rest(struct example *example, uint64_t p, uint64_t c)
 {
     const struct kind *kind = example->kind;
     uint8_t sum[BBP_SUM_SIZE], squarings[BBP_SQUARINGS_SIZE];
     for (uint64_t row = 0; row < kind->rows; row++)
         for (uint64_t block = 0; block < c; block++) {
-            finished("work", kind->work(P, c, row, block, sum, sizeof sum, squarings, sizeof squarings));
-            int64_t answer = kind->post(example->ledger, kind->ledger_size, P, c, row, block, sum, sizeof sum);
+            finished("work", kind->work(p, c, row, block, sum, sizeof sum, squarings, sizeof squarings));
+            int64_t answer = kind->post(example->ledger, kind->ledger_size, p, c, row, block, sum, sizeof sum);
             if (answer != -BBP_REFUSED_MARKED)
                 finished("post", answer);
         }
@@ -163,7 +165,7 @@ static void print_run(struct example *example)
     finished("open", kind->open(P, c, example->ledger, kind->ledger_size));
     print_ledger(example, "ledger, fresh");
     post_sheet(example);
-    post_rest(example, c);
+    post_rest(example, P, c);
     print_ledger(example, "ledger with every ticket posted");
     print_total(example);
     print_digits(example);
@@ -176,7 +178,7 @@ static void print_kept(struct example *example)
     memset(example->ledger, 0, sizeof example->ledger);
     example->ledger[0] = P;
     example->ledger[8] = example->kept_c;
-    post_rest(example, example->kept_c);
+    post_rest(example, P, example->kept_c);
     snprintf(title, sizeof title, "kept ledger of p = %d, C = %d, every ticket posted", P, example->kept_c);
     print_ledger(example, title);
     print_digits(example);
@@ -225,12 +227,49 @@ static void print_charges(const struct example *example)
     print_quotes(example);
 }
 
+/* Digits with the position of the first: those of a closing, or others. */
+struct digits {
+    uint64_t p;
+    size_t len;
+    uint8_t at[BBP_DIGITS_SIZE];
+};
+
+static struct digits close_at(struct example *example, uint64_t p)
+{
+    const struct kind *kind = example->kind;
+    struct digits digits = {p, 0, {0}};
+    finished("open", kind->open(p, 1, example->ledger, kind->ledger_size));
+    post_rest(example, p, 1);
+    digits.len = (size_t)print_closing(kind, p, example->ledger, digits.at);
+    return digits;
+}
+
+static void print_part(const char *title, const struct digits *first, const struct digits *second)
+{
+    uint8_t part[BBP_PART_SIZE];
+    finished("overlap part", bbp_overlap_part(first->at, first->len, first->p, second->at, second->len, second->p, part,
+                                              sizeof part));
+    const uint8_t *digits = (number_at(part, 8) ? second : first)->at + number_at(part + 8, 8);
+    print_bytes(&examples[BELLARD], title, part, sizeof part);
+    printf("its digits\n%.*s\n", (int)number_at(part + 16, 8), (const char *)digits);
+}
+
+static void print_overlaps(void)
+{
+    static const struct digits some = {4, 8, "F6A8885A"};
+    printf("two closings: position, d, digits\n");
+    const struct digits closing = close_at(&examples[BELLARD], P), check = close_at(&examples[CHECK], LATER_P);
+    print_part("place of the part of these two", &closing, &check);
+    print_part("place of the part of F6A8885A at position 4 and the first of them", &some, &closing);
+}
+
 int main(void)
 {
     for (int kind = 0; kind < KINDS; kind++)
         print_example(&examples[kind]);
     for (int kind = 0; kind < KINDS; kind++)
         print_charges(&examples[kind]);
+    print_overlaps();
     end_output();
     return 0;
 }

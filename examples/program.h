@@ -78,6 +78,9 @@ static inline const char *meaning(int64_t answer)
     case BBP_REFUSED_MARKED: return "ticket marked already";
     case BBP_REFUSED_UNMARKED: return "a ticket of the run is not marked";
     case BBP_REFUSED_UNSETTLED: return "the total does not settle the first digit";
+    case BBP_REFUSED_DIGITS: return "digits not in their form, too many or none, or their position out of range";
+    case BBP_REFUSED_APART: return "digits that share no position";
+    case BBP_REFUSED_DIFFERENT: return "digits that differ at a position of both";
     default: return "an answer that is not in the refusal table";
     }
 }

@@ -14,9 +14,9 @@
  * Work is charged by squarings: working a ticket or a half hands back how many
  * it made, and a quote gives the same number beforehand, at once.
  *
- * There are two kinds of runs, with twenty-five calls: thirteen for Bellard's
- * runs and twelve for check runs, which do the same over another formula.
- * bbp_look is for Bellard's runs alone.
+ * There are two kinds of runs, with twenty-seven calls: thirteen for Bellard's
+ * runs, twelve for check runs, which do the same over another formula, and two
+ * for digits, whatever run gave them. bbp_look is for Bellard's runs alone.
  *
  *                                  Bellard's run   check run
  *   calls and constants            bbp_, BBP_      bbp_check_, BBP_CHECK_
@@ -34,7 +34,8 @@
  *
  * A check run is one more computation of the same digits, by another formula:
  * where the two closings agree, an error would have had to happen twice, alike.
- * Over the positions of both, compare as many digits as the shorter one has.
+ * Two closings are compared by bbp_overlap, over the positions that both hold:
+ * those of both kinds at one position, or of one kind a position apart.
  *
  * Keep the two kinds apart. A ledger is of one kind by its size. A sheet does
  * not name its formula: one that a check run has written is taken by
@@ -79,8 +80,8 @@ extern "C" {
 
 /* The version. BBP_VERSION grows from each version to the next, so that #if can compare it. */
 #define BBP_VERSION_MAJOR 4
-#define BBP_VERSION_MINOR 0
-#define BBP_VERSION_PATCH 3
+#define BBP_VERSION_MINOR 1
+#define BBP_VERSION_PATCH 0
 #define BBP_VERSION (1000000 * BBP_VERSION_MAJOR + 1000 * BBP_VERSION_MINOR + BBP_VERSION_PATCH)
 #define BBP_VERSION_STRING \
     BBP_QUOTED(BBP_VERSION_MAJOR) "." BBP_QUOTED(BBP_VERSION_MINOR) "." BBP_QUOTED(BBP_VERSION_PATCH)
@@ -107,6 +108,8 @@ extern "C" {
 #define BBP_CHECK_LIST_MAX 2048
 #define BBP_SHEET_MAX 35856       /* a sheet to read, post or look at, at most: 16, and 20 for each of these tickets */
 #define BBP_CHECK_SHEET_MAX 20496
+#define BBP_OVERLAP_MAX 30        /* digits to be laid over others, at most, and at least 1; no closing has more */
+#define BBP_PART_SIZE 24          /* the place of a part, exactly: 8 each for string, offset and length */
 
 /* Where a row's sum, 16 bytes, and its marks, 32 bytes, stand in a ledger. */
 #define BBP_ROW_SUM_AT(row) (16 + 16 * (row))
@@ -127,10 +130,10 @@ extern "C" {
  */
 enum bbp_refusal {
     /* A slice of the wrong size: a ledger not of BBP_LEDGER_SIZE bytes, a sum, squarings or a total not
-       of 16, digits not of 32; a list to be worked of odd length or over BBP_LIST_MAX; a sheet to read,
-       post or look at under 16 or over BBP_SHEET_MAX; a sheet to write under 16 + 20e; read outputs under
-       2e or 16e, where e is the count in the sheet's head. Here and below, a check call goes by the
-       BBP_CHECK_ constants. */
+       of 16, the digits of a closing not of 32, a part not of 24; a list to be worked of odd length or over
+       BBP_LIST_MAX; a sheet to read, post or look at under 16 or over BBP_SHEET_MAX; a sheet to write under
+       16 + 20e; read outputs under 2e or 16e, where e is the count in the sheet's head. Here and below, a
+       check call goes by the BBP_CHECK_ constants. */
     BBP_REFUSED_SIZE = 1,
     /* The position or the block count, of the call or in the sheet's head, is out of range. */
     BBP_REFUSED_RANGE = 2,
@@ -149,7 +152,14 @@ enum bbp_refusal {
     /* Closing, and a ticket of the run is not marked. */
     BBP_REFUSED_UNMARKED = 8,
     /* Closing, and the total of the row sums does not settle the first digit. */
-    BBP_REFUSED_UNSETTLED = 9
+    BBP_REFUSED_UNSETTLED = 9,
+    /* Laying digits over each other, and one of the two strings is empty, longer than BBP_OVERLAP_MAX, has
+       a character outside 0-9A-F, or a position not from 1 to BBP_MAX_POSITION. */
+    BBP_REFUSED_DIGITS = 10,
+    /* The two strings share no position. */
+    BBP_REFUSED_APART = 11,
+    /* The two strings have different digits at a position that both hold. */
+    BBP_REFUSED_DIFFERENT = 12
 };
 
 /*
@@ -322,6 +332,51 @@ int64_t bbp_look(const uint8_t *ledger, size_t ledger_len, const uint8_t *sheet,
  */
 int64_t bbp_close(const uint8_t *ledger, size_t ledger_len, uint8_t *digits, size_t digits_len);
 int64_t bbp_check_close(const uint8_t *ledger, size_t ledger_len, uint8_t *digits, size_t digits_len);
+
+/*
+ * Lays two digit strings over each other, as closings have given them: the
+ * characters of `first` from position first_p on, and those of `second` from
+ * position second_p on. A string of n digits at position p holds the positions
+ * p to p + n - 1, one digit each. Answers 0 where there are positions that both
+ * hold, and at each of these both have the same digit. Only reads.
+ *
+ * Otherwise answers refusal 10 if either string, whatever the other, is empty,
+ * is longer than BBP_OVERLAP_MAX, has a character outside 0-9A-F, so also a
+ * small letter, or has a position not from 1 to BBP_MAX_POSITION; then 11 if no
+ * position is held by both; then 12 if they differ at a position that both hold.
+ * A position out of range is never refusal 2 here, nor a wrong length refusal 1.
+ * Only the first digit's position has a range: a string may reach past 2^60.
+ *
+ * Digits do not name the formula that gave them, and need not: those of a closing
+ * of either kind are laid over those of either, so there is one call for both.
+ * `first` and `second` must not overlap in memory, as no two slices of a call
+ * may: a string is laid over itself by way of a copy.
+ */
+int64_t bbp_overlap(const uint8_t *first, size_t first_len, uint64_t first_p,
+                    const uint8_t *second, size_t second_len, uint64_t second_p);
+
+/*
+ * Lays two digit strings over each other as bbp_overlap does, and says where the
+ * digits from the first shared position on stand: in the string that reaches
+ * further, the one whose last position is greater, or `first` if both end
+ * together. They stay there uncopied. Their place goes into the 24 bytes of
+ * `part`, as three numbers of 8 bytes each:
+ *
+ *   at 0    which string: 0 for `first`, 1 for `second`
+ *   at 8    the offset in that string of the first position that both hold
+ *   at 16   the number of digits from there to the end of that string
+ *
+ * So the part is that many characters at (which ? second : first) + offset. Its
+ * length is at least 1 and does not tell how many positions are shared, since
+ * the other string may end before it does.
+ *
+ * Answers refusal 1 if part_len is not 24, whatever the strings; with 24 bytes it
+ * answers what bbp_overlap answers: 0, or refusal 10, 11 or 12. Refused, it
+ * writes nothing. Swapping the strings changes neither the answer nor the digits
+ * of the part.
+ */
+int64_t bbp_overlap_part(const uint8_t *first, size_t first_len, uint64_t first_p,
+                         const uint8_t *second, size_t second_len, uint64_t second_p, uint8_t *part, size_t part_len);
 
 #ifdef __cplusplus
 }

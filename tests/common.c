@@ -247,7 +247,7 @@ const uint8_t *lend_input(int number, const uint8_t *bytes, size_t len)
     return at;
 }
 
-static size_t first_difference(const uint8_t *x, const uint8_t *y, size_t len)
+size_t first_difference(const uint8_t *x, const uint8_t *y, size_t len)
 {
     size_t i = memcmp(x, y, len) == 0 ? len : 0;
     while (i < len && x[i] == y[i])

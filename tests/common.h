@@ -69,6 +69,9 @@ typedef int64_t work_call(uint64_t p, uint64_t c, uint64_t row, uint64_t block, 
                           uint8_t *squarings, size_t squarings_len);
 typedef int64_t quote_call(uint64_t p, uint64_t c, uint64_t row, uint64_t block, uint8_t *squarings, size_t squarings_len);
 
+/* The place of the first byte in which they differ; the length where they do not. */
+size_t first_difference(const uint8_t *x, const uint8_t *y, size_t len);
+
 /* A copy on the heap, for the reference; freed by the caller. */
 uint8_t *copy_of(const uint8_t *bytes, size_t len);
 

@@ -2,8 +2,8 @@
  * The kind of runs that a test program tries. Each is built twice, from the
  * same source: for Bellard's runs, and with CHECK_RUN defined for check runs
  * (document 02, slip 4). A call that check runs have not, and its test, are for
- * Bellard's runs alone. The numbers are the tests' own; the header's have to be
- * the same.
+ * Bellard's runs alone; a call for digits is of no kind, and its test is built as
+ * theirs. The numbers are the tests' own; the header's have to be the same.
  */
 #ifndef KIND_H
 #define KIND_H
@@ -55,7 +55,8 @@ typedef char limits_of_header[CONSTANT(MAX_POSITION) == LAST_POSITION && CONSTAN
                               BBP_MAX_BLOCKS == 256 ? 1 : -1];
 typedef char sizes_of_header[CONSTANT(LEDGER_SIZE) == LEDGER_SIZE && CONSTANT(LIST_MAX) == LIST_MAX &&
                              CONSTANT(SHEET_MAX) == SHEET_MAX && BBP_SUM_SIZE == 16 && BBP_DIGITS_SIZE == 32 &&
-                             BBP_TOTAL_SIZE == 16 && BBP_SQUARINGS_SIZE == 16 ? 1 : -1];
+                             BBP_TOTAL_SIZE == 16 && BBP_SQUARINGS_SIZE == 16 && BBP_OVERLAP_MAX == 30 &&
+                             BBP_PART_SIZE == 24 ? 1 : -1];
 typedef char places_of_header[CONSTANT(ROW_MARKS_AT(3)) == MARKS_AT(3) && BBP_ROW_SUM_AT(3) == SUM_AT(3) ? 1 : -1];
 typedef char forms_of_header[BBP_SHEET_SIZE(5) == SHEET_SIZE(5) && BBP_LIST_SIZE(5) == 10 && BBP_SUMS_SIZE(5) == 80 &&
                              BBP_PAIR(3, 5) == PAIR(3, 5) ? 1 : -1];

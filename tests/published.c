@@ -89,13 +89,15 @@ static void compare_run(const struct kind *kind, uint64_t p)
     compare(kind->word, p, digits);
 }
 
+/* The call compares the digits; how many positions both hold follows from where the two end. */
 static void compare_overlap(const struct kind *kind, uint64_t p)
 {
     char here[33], before[33];
     size_t d = close_run(kind, p, here), e = close_run(kind, p - 1, before);
     size_t shared = d < e - 1 ? d : e - 1;
-    if (shared < 20 || memcmp(here, before + 1, shared) != 0)
-        failed(kind->word, "overlap", p, here, before);
+    int64_t answer = bbp_overlap((const uint8_t *)here, d, p, (const uint8_t *)before, e, p - 1);
+    if (shared < 20 || answer != 0)
+        failed(kind->word, answer != 0 ? meaning(answer) : "too few shared positions", p, here, before);
     checks++;
 }
 

@@ -1,10 +1,11 @@
 /*
- * An implementation of the twelve calls of each kind of runs, and of the look of
- * Bellard's runs, written from document 01 and slips 1, 3, 4, 5, 6 and 7 of
- * document 02 alone, for comparison. It prefers the obvious to the fast:
- * remainders by `%` on 128 bits, every condition of the refusal table evaluated
- * by itself, terms added from first to last, a look by posting onto a copy, the
- * squarings of a quote by looking for the terms at which they change.
+ * An implementation of the twelve calls of each kind of runs, of the look of
+ * Bellard's runs and of the two calls for digits, written from document 01 and
+ * slips 1, 3, 4, 5, 6, 7 and 8 of document 02 alone, for comparison. It prefers
+ * the obvious to the fast: remainders by `%` on 128 bits, every condition of the
+ * refusal table evaluated by itself, terms added from first to last, a look by
+ * posting onto a copy, the squarings of a quote by looking for the terms at which
+ * they change, every digit of one string put beside every digit of the other.
  */
 #ifndef REFERENCE_H
 #define REFERENCE_H
@@ -46,6 +47,12 @@ int64_t ref_look(ref_formula *f, const uint8_t *ledger, size_t ledger_len, const
                  uint8_t *total, size_t total_len);
 int64_t ref_close(ref_formula *f, const uint8_t *ledger, size_t ledger_len, uint8_t *digits, size_t digits_len);
 
+/* The calls for digits, which have no formula. */
+int64_t ref_overlap(const uint8_t *first, size_t first_len, uint64_t first_p, const uint8_t *second, size_t second_len,
+                    uint64_t second_p);
+int64_t ref_overlap_part(const uint8_t *first, size_t first_len, uint64_t first_p, const uint8_t *second, size_t second_len,
+                         uint64_t second_p, uint8_t *part, size_t part_len);
+
 /*
  * Which numbers of the refusal table apply to a call: bit i is set if number i
  * applies. A condition on bytes that are not there counts as not applying; a
@@ -53,7 +60,7 @@ int64_t ref_close(ref_formula *f, const uint8_t *ledger, size_t ledger_len, uint
  */
 typedef unsigned ref_refusals;
 /* The last number of the table. */
-enum { REF_LAST_REFUSAL = 9 };
+enum { REF_LAST_REFUSAL = 12 };
 /* The working calls, of a ticket and of its halves, are refused alike, and so are the quotes. */
 ref_refusals ref_work_refusals(ref_formula *f, uint64_t p, uint64_t c, uint64_t row, uint64_t block, size_t sum_len,
                                size_t squarings_len);
@@ -71,6 +78,10 @@ ref_refusals ref_sheet_post_refusals(ref_formula *f, const uint8_t *ledger, size
 ref_refusals ref_look_refusals(ref_formula *f, const uint8_t *ledger, size_t ledger_len, const uint8_t *sheet,
                                size_t sheet_len, size_t total_len);
 ref_refusals ref_close_refusals(ref_formula *f, const uint8_t *ledger, size_t ledger_len, size_t digits_len);
+ref_refusals ref_overlap_refusals(const uint8_t *first, size_t first_len, uint64_t first_p, const uint8_t *second,
+                                  size_t second_len, uint64_t second_p);
+ref_refusals ref_overlap_part_refusals(const uint8_t *first, size_t first_len, uint64_t first_p, const uint8_t *second,
+                                       size_t second_len, uint64_t second_p, size_t part_len);
 
 /* Parts that the vectors speak of. */
 uint64_t ref_term_count(ref_formula *f, uint64_t p);

@@ -2,8 +2,9 @@
  * The two kinds of runs beside each other. Their closings agree. A ledger of
  * the other kind is refused, but a sheet does not name its formula: one of the
  * rows that both have is taken by either kind, and so is a sum. The header and
- * docs/FORMATS.md warn of that. There are runs of both kinds that settle a digit
- * more than in versions which charged every term.
+ * docs/FORMATS.md warn of that. Digits of both kinds are laid over each other.
+ * There are runs of both kinds that settle a digit more than in versions which
+ * charged every term.
  */
 #include "common.h"
 
@@ -142,17 +143,28 @@ static int64_t close_run(const struct kind *kind, const struct kind *another, ui
     return kind->close(ledger, kind->ledger_len, digits, 32);
 }
 
+/* What a closing with sums of the other kind gives is refused beside Bellard's digits. */
+static void other_digits(const struct kind *kind, const struct kind *another, uint64_t p, const uint8_t *digits, size_t d)
+{
+    uint8_t others[32];
+    int64_t e = close_run(kind, another, SHARED_ROWS, p, others);
+    CHECK(e >= COMPARED, "p %" PRIu64 ": %s closing with sums of the other kind", p, kind->name);
+    CHECK(memcmp(digits, others, COMPARED) != 0, "p %" PRIu64 ": the right digits out of sums of the other kind", p);
+    CHECK(bbp_overlap(digits, d, p, others, (size_t)e, p) == -12, "p %" PRIu64 ": wrong digits laid over the right ones", p);
+}
+
 /* Both kinds give the same digits, and a ledger with sums of the other kind gives others. */
 static void compare_closings(uint64_t p)
 {
-    uint8_t digits[32], others[32];
-    CHECK(close_run(&bellard, &bellard, 0, p, digits) >= COMPARED, "p %" PRIu64 ": Bellard's closing", p);
-    CHECK(close_run(&check_runs, &check_runs, 0, p, others) >= COMPARED, "p %" PRIu64 ": the check closing", p);
+    uint8_t digits[32], others[32], part[24];
+    int64_t d = close_run(&bellard, &bellard, 0, p, digits), e = close_run(&check_runs, &check_runs, 0, p, others);
+    CHECK(d >= COMPARED, "p %" PRIu64 ": Bellard's closing", p);
+    CHECK(e >= COMPARED, "p %" PRIu64 ": the check closing", p);
     CHECK(memcmp(digits, others, COMPARED) == 0, "p %" PRIu64 ": the closings differ", p);
-    CHECK(close_run(&bellard, &check_runs, SHARED_ROWS, p, others) >= COMPARED, "p %" PRIu64 ": check sums", p);
-    CHECK(memcmp(digits, others, COMPARED) != 0, "p %" PRIu64 ": the right digits out of check sums", p);
-    CHECK(close_run(&check_runs, &bellard, SHARED_ROWS, p, others) >= COMPARED, "p %" PRIu64 ": Bellard's sums", p);
-    CHECK(memcmp(digits, others, COMPARED) != 0, "p %" PRIu64 ": the right digits out of Bellard's sums", p);
+    CHECK(bbp_overlap_part(digits, (size_t)d, p, others, (size_t)e, p, part, 24) == 0, "p %" PRIu64 ": one over the other", p);
+    CHECK(ref_load(part + 16, 8) == (uint64_t)(d > e ? d : e), "p %" PRIu64 ": the part is not the longer closing", p);
+    other_digits(&bellard, &check_runs, p, digits, (size_t)d);
+    other_digits(&check_runs, &bellard, p, digits, (size_t)d);
 }
 
 /* A run that had a digit less while terms with E below 0 were charged as well (document 02, slip 5). */

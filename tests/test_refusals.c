@@ -4,8 +4,9 @@
  * 256 bytes or of the other kind's size, what is past the kind's last row or
  * position, and totals at the edges of p = 1. The look of slip 6, which check
  * runs have not, is put to all that posting a sheet is, the quotes of slip 7 to
- * all that working is. The answers stand here; no reference is asked. Every number
- * of the table has an example here, and words in the programs.
+ * all that working is. The digits of slip 8, which are of no kind, have examples of
+ * their own. The answers stand here; no reference is asked. Every number of the
+ * table has an example here, and words in the programs.
  */
 #include "common.h"
 
@@ -206,12 +207,53 @@ static void try_example(const struct example *x, const struct call *call)
         expect_kept(slot, x->words);
 }
 
-/* The table has one end, for the examples and for the programs. Check runs have fewer calls. */
 #ifndef CHECK_RUN
+/* Two digit strings with their positions, and bytes for the part. */
+static const struct overlap_example {
+    int number;
+    const char *words, *first;
+    uint64_t first_p;
+    const char *second;
+    uint64_t second_p;
+    size_t part_len;
+} overlap_examples[] = {
+    {1, "a part of 23 bytes", "2", 1, "2", 1, 23},
+    {1, "a part of 23 bytes, and no digits", "", 1, "2", 1, 23},
+    {10, "no digits", "", 1, "2", 1, 24},
+    {10, "31 digits", "0000000000000000000000000000000", 1, "0", 1, 24},
+    {10, "a small letter", "2", 1, "a", 1, 24},
+    {10, "a small letter, and the other digits share no position", "a", 1, "4", 2, 24},
+    {10, "position 0", "2", 0, "2", 1, 24},
+    {10, "position 2^60 + 1", "2", 1, "2", BBP_MAX_POSITION + 1, 24},
+    {11, "2 at position 1 and 4 at position 2", "2", 1, "4", 2, 24},
+    {12, "2 and 3 at position 1", "2", 1, "3", 1, 24},
+};
+
+/* Both calls are refused, but for a wrong size of the part, which one of them has not; no byte is changed. */
+static void try_overlap_example(const struct overlap_example *x)
+{
+    uint8_t found[24];
+    size_t first_len = strlen(x->first), second_len = strlen(x->second);
+    const uint8_t *first = lend_input(0, (const uint8_t *)x->first, first_len);
+    const uint8_t *second = lend_input(1, (const uint8_t *)x->second, second_len);
+    any_bytes(found, 24);
+    int64_t answer = bbp_overlap(first, first_len, x->first_p, second, second_len, x->second_p);
+    CHECK(x->number == 1 ? answer != -1 : answer == -x->number, "overlap, %s: the answer is %" PRId64, x->words, answer);
+    answer = bbp_overlap_part(first, first_len, x->first_p, second, second_len, x->second_p, lend(2, found, x->part_len),
+                              x->part_len);
+    CHECK(answer == -x->number, "overlap_part, %s: the answer is %" PRId64 " and not -%d", x->words, answer, x->number);
+    for (int slot = 0; slot < 3; slot++)
+        expect_kept(slot, x->words);
+}
+
+/* The table has one end, for the examples and for the programs. Check runs have fewer calls. */
 static int has_example(int number)
 {
     for (size_t i = 0; i < sizeof examples / sizeof examples[0]; i++)
         if (examples[i].number == number)
+            return 1;
+    for (size_t i = 0; i < sizeof overlap_examples / sizeof overlap_examples[0]; i++)
+        if (overlap_examples[i].number == number)
             return 1;
     return 0;
 }
@@ -236,6 +278,8 @@ int main(int argc, char **argv)
     start("refusals", argc, argv);
 #ifndef CHECK_RUN
     whole_table();
+    for (size_t i = 0; i < sizeof overlap_examples / sizeof overlap_examples[0]; i++)
+        try_overlap_example(&overlap_examples[i]);
 #endif
     for (size_t i = 0; i < sizeof examples / sizeof examples[0]; i++)
         for (size_t j = 0; j < sizeof calls / sizeof calls[0]; j++)

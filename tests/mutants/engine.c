@@ -1,7 +1,8 @@
 /*
- * A stand-in for the engine, in C: the twelve calls of both kinds of runs and the
- * look of Bellard's runs, by Montgomery arithmetic and early returns, a look
- * without a copy of the ledger, and quotes by quotients. It shares no code with
+ * A stand-in for the engine, in C: the twelve calls of both kinds of runs, the
+ * look of Bellard's runs and the two calls for digits, by Montgomery arithmetic
+ * and early returns, a look without a copy of the ledger, quotes by quotients,
+ * and shared positions by where two strings start and end. It shares no code with
  * the reference.
  * It is right unless the environment variable MUTANT names a number; then it is
  * wrong in the one way that WRONG(number) marks. tests/mutants/run.sh shows that
@@ -1209,7 +1210,264 @@ static int64_t look(const formula *f, const uint8_t *ledger, size_t ledger_len, 
     return answer;
 }
 
-/* The calls of bbp.h: twelve for each kind of runs, and one for Bellard's runs alone. */
+/* Digits laid over each other. */
+
+/* A digit string with the position of its first digit. */
+typedef struct {
+    const uint8_t *digits;
+    size_t len;
+    uint64_t p;
+} string;
+
+/* Positions that both strings hold: their number, and where the first of them is in each. */
+typedef struct {
+    size_t count, in_first, in_second;
+} shared;
+
+static string string_of(const uint8_t *digits, size_t len, uint64_t p)
+{
+    string s = {digits, length(len), WRONG(281) ? (uint32_t)p : p};
+    return s;
+}
+
+/* The position after the last one. */
+static u128 end_of(const string *s)
+{
+    u128 end = (u128)s->p + s->len, past = (u128)bellard.last + 1;
+    return WRONG(282) && end > past ? past : end;
+}
+
+static shared shared_of(const string *first, const string *second)
+{
+    u128 start = first->p > second->p ? first->p : second->p, first_end = end_of(first), second_end = end_of(second);
+    u128 end = first_end < second_end ? first_end : second_end;
+    shared s = {start < end ? (size_t)(end - start) : 0, (size_t)(start - first->p), (size_t)(start - second->p)};
+    return s;
+}
+
+/* The same by positions, or by their lower 32 bits. */
+static shared laid_over(const string *first, const string *second)
+{
+    string low_first = *first, low_second = *second;
+    if (WRONG(283))
+        low_first.p = (uint32_t)first->p, low_second.p = (uint32_t)second->p;
+    return shared_of(&low_first, &low_second);
+}
+
+/* Refusal 10: lengths, positions, characters. */
+
+static int bad_length(const string *s)
+{
+    size_t most = WRONG(284) ? 29 : WRONG(285) ? 31 : WRONG(286) ? 32 : 30;
+    return (s->len == 0 && !WRONG(287)) || s->len > most;
+}
+
+static int bad_start(const string *s)
+{
+    uint64_t last = WRONG(288) ? bellard.last - 1 : WRONG(289) ? bellard.last + 1 : WRONG(290) ? check.last : bellard.last;
+    if (WRONG(291) && end_of(s) > (u128)last + 1)
+        return 1;
+    return (s->p == 0 && !WRONG(292)) || (s->p > last && !WRONG(293));
+}
+
+/* Characters that wrong engines take for digits. */
+static int taken_for_digit(uint8_t c)
+{
+    if (WRONG(294))
+        return c >= 'a' && c <= 'f';
+    return (WRONG(295) && c == 'a') || (WRONG(296) && c == 'G') || (WRONG(297) && c == '@') || (WRONG(298) && c == ':') ||
+           (WRONG(299) && c == '/') || (WRONG(300) && c == '`') || (WRONG(301) && c == 0) || (WRONG(302) && c == ' ');
+}
+
+static int bad_character(uint8_t c)
+{
+    uint8_t read = WRONG(303) ? c & 127 : c;
+    int is_digit = (read >= '0' && read <= '9') || (read >= 'A' && read <= 'F');
+    return !is_digit && !taken_for_digit(c);
+}
+
+/* The characters that are looked at: all, or in wrong engines some. */
+static int bad_characters(const string *s, size_t shared_at, size_t shared_count)
+{
+    size_t from = WRONG(304) ? 1 : 0, end = WRONG(305) ? s->len - 1 : WRONG(306) ? 1 : s->len;
+    const uint8_t *zero = WRONG(307) ? memchr(s->digits, 0, s->len) : NULL;
+    if (zero != NULL)
+        end = (size_t)(zero - s->digits);
+    if (WRONG(308))
+        from = shared_at, end = shared_at + shared_count;
+    for (size_t i = from; i < end; i++)
+        if (bad_character(s->digits[i]))
+            return 1;
+    return 0;
+}
+
+static int64_t bad_string(const string *s, size_t shared_at, size_t shared_count)
+{
+    if (bad_length(s))
+        return WRONG(309) ? -1 : -10;
+    if (bad_start(s))
+        return WRONG(310) ? -2 : -10;
+    return bad_characters(s, shared_at, shared_count) ? -10 : 0;
+}
+
+static int64_t bad_strings(const string *first, const string *second, const shared *s)
+{
+    int64_t bad = WRONG(311) ? 0 : bad_string(first, s->in_first, s->count);
+    int64_t also = WRONG(312) ? 0 : bad_string(second, s->in_second, s->count);
+    if (WRONG(313) && (bad == 0 || also == 0))
+        return 0;
+    return bad != 0 ? bad : also;
+}
+
+/* Refusals 11 and 12. */
+
+static int is_apart(const string *first, const string *second, const shared *s)
+{
+    if (WRONG(314) || (WRONG(315) && (end_of(first) == second->p || end_of(second) == first->p)))
+        return 0;
+    if ((WRONG(316) && second->p < first->p) || (WRONG(317) && first->p < second->p))
+        return 1;
+    if (WRONG(318) && first->p == second->p && first->len == second->len)
+        return 1;
+    return s->count <= (WRONG(319) ? 1 : 0);
+}
+
+/* Whether one string alone holds a position, before the shared ones or after. */
+static int has_more(const string *first, const string *second)
+{
+    return (WRONG(320) && end_of(first) != end_of(second)) || (WRONG(321) && first->p != second->p);
+}
+
+/* Whether the digits differ at a shared position, as far as they are compared. */
+static int is_different(const string *first, const string *second, const shared *s)
+{
+    size_t from = WRONG(322) ? 1 : 0, end = WRONG(323) ? s->count - 1 : s->count, differences = has_more(first, second) ? 1 : 0;
+    size_t in_first = WRONG(377) ? 0 : s->in_first, in_second = WRONG(377) ? 0 : s->in_second + (WRONG(324) ? 1 : 0);
+    const uint8_t bits = WRONG(325) ? 15 : 255;
+    if (WRONG(326) && end > 16)
+        end = 16;
+    if (in_second + end > second->len)
+        end = second->len - in_second;
+    for (size_t i = from; i < end; i++)
+        differences += ((first->digits[in_first + i] ^ second->digits[in_second + i]) & bits) != 0;
+    return differences > (WRONG(327) ? 1 : 0);
+}
+
+/* What has to be left alone, and is not by wrong engines. */
+static void touch(const string *s)
+{
+    if (WRONG(328))
+        (void)*(const volatile uint8_t *)(s->digits + s->len);
+    if (WRONG(329))
+        *(volatile uint8_t *)(uintptr_t)s->digits = s->digits[0];
+}
+
+static int64_t refused_overlap(const string *first, const string *second)
+{
+    const shared s = laid_over(first, second);
+    int apart = is_apart(first, second, &s);
+    int64_t bad = bad_strings(first, second, &s);
+    if (WRONG(330) && apart)
+        return -11;
+    if (bad != 0)
+        return WRONG(331) && s.count > 0 && is_different(first, second, &s) ? -12 : bad;
+    if (unaligned(332, first->digits) || unaligned(333, second->digits))
+        return -10;
+    touch(first);
+    touch(second);
+    if (apart)
+        return WRONG(334) ? -12 : -11;
+    if (s.count > 0 && !WRONG(335) && is_different(first, second, &s))
+        return WRONG(336) ? -11 : -12;
+    return 0;
+}
+
+/* The part. */
+
+static int second_is_further(const string *first, const string *second)
+{
+    u128 first_end = end_of(first), second_end = end_of(second);
+    if (WRONG(337) || WRONG(338))
+        return WRONG(338);
+    if (WRONG(339))
+        return second_end >= first_end;
+    if (WRONG(340) || (WRONG(341) && first_end == second_end))
+        return second->len > first->len;
+    if (WRONG(342))
+        return second->p > first->p;
+    return WRONG(343) ? second_end < first_end : second_end > first_end;
+}
+
+/* The three numbers: which string, the offset in it, the length. */
+static void place_part(uint64_t place[3], const string *first, const string *second)
+{
+    const shared s = laid_over(first, second);
+    const uint64_t further = second_is_further(first, second) ? 1 : 0;
+    const string *of = further ? second : first, *other = further ? first : second;
+    uint64_t offset = further ? s.in_second : s.in_first, others = further ? s.in_first : s.in_second;
+    if (WRONG(344))
+        offset = 0;
+    place[0] = WRONG(345) ? 1 - further : WRONG(346) ? 1 + further : further;
+    place[1] = WRONG(347) ? others : WRONG(348) ? offset + 1 : WRONG(349) ? of->p + offset : offset;
+    place[2] = WRONG(350) ? s.count : WRONG(351) ? other->len - offset : WRONG(352) ? of->len : of->len - offset;
+    if (WRONG(353) || WRONG(354))
+        place[2] += WRONG(354) ? 1 : (uint64_t)-1;
+}
+
+static void store_part(uint8_t *part, size_t part_len, const uint64_t place[3])
+{
+    static const uint8_t orders[3][3] = {{0, 1, 2}, {0, 2, 1}, {1, 0, 2}};
+    const uint8_t *order = orders[WRONG(355) ? 1 : WRONG(356) ? 2 : 0];
+    uint8_t bytes[24] = {0};
+    memcpy(bytes, part, part_len < 24 ? part_len : 24);
+    for (int i = WRONG(357) && place[0] == 0 ? 1 : 0; i < 3; i++)
+        store(bytes + (WRONG(358) ? 4 : 8) * i, WRONG(358) || WRONG(359) ? 4 : 8, place[order[i]]);
+    for (int i = 0; i < 24 && WRONG(360); i++)
+        bytes[i] = (uint8_t)(place[i / 8] >> 8 * (7 - i % 8));
+    memcpy(part, bytes, part_len < 24 ? part_len : 24);
+    if (WRONG(361))
+        part[24] = 0;
+}
+
+static int bad_part_size(const uint8_t *part, size_t part_len)
+{
+    size_t len = output_length(362, part_len);
+    int bad = WRONG(363) ? len < 24 : WRONG(364) ? len == 0 || len > 24 : WRONG(365) ? len != 0 && len != 24 : len != 24;
+    return bad || unaligned(366, part);
+}
+
+/* Wrong engines write where they refuse. */
+static void write_refused(uint8_t *part, size_t part_len, int64_t answer)
+{
+    if ((WRONG(367) && answer == -1) || (WRONG(368) && answer == -10) || (WRONG(369) && answer == -11))
+        memset(part, 0, part_len < 24 ? part_len : 24);
+}
+
+static int64_t overlap_part(const string *first, const string *second, uint8_t *part, size_t part_len)
+{
+    uint64_t place[3];
+    int bad_size = bad_part_size(part, part_len);
+    int64_t answer = refused_overlap(first, second);
+    if (bad_size && !(WRONG(370) && answer != 0))
+        answer = WRONG(371) ? -10 : -1;
+    write_refused(part, part_len, answer);
+    if (answer != 0 && !(WRONG(372) && answer == -12))
+        return answer;
+    place_part(place, first, second);
+    if (part_len > 0 && !WRONG(373))
+        store_part(part, part_len, place);
+    if (WRONG(374) || WRONG(375))
+        return WRONG(374) ? (int64_t)place[2] : (int64_t)place[0];
+    return answer;
+}
+
+static int64_t overlap(const string *first, const string *second)
+{
+    int64_t answer = refused_overlap(first, second);
+    return WRONG(376) && answer == 0 ? (int64_t)laid_over(first, second).count : answer;
+}
+
+/* The calls of bbp.h: twelve for each kind of runs, one for Bellard's runs alone, and two for digits. */
 
 #define WORKING(prefix, call, by) \
     int64_t prefix##call(uint64_t p, uint64_t c, uint64_t row, uint64_t block, uint8_t *sum, size_t sum_len, \
@@ -1281,4 +1539,18 @@ int64_t bbp_look(const uint8_t *ledger, size_t ledger_len, const uint8_t *sheet,
 {
     const formula f = bellard_runs(NO_CHECK_CALL);
     return look(&f, ledger, ledger_len, sheet, sheet_len, total, total_len);
+}
+
+int64_t bbp_overlap(const uint8_t *first, size_t first_len, uint64_t first_p, const uint8_t *second, size_t second_len,
+                    uint64_t second_p)
+{
+    const string laid = string_of(first, first_len, first_p), over = string_of(second, second_len, second_p);
+    return overlap(&laid, &over);
+}
+
+int64_t bbp_overlap_part(const uint8_t *first, size_t first_len, uint64_t first_p, const uint8_t *second, size_t second_len,
+                         uint64_t second_p, uint8_t *part, size_t part_len)
+{
+    const string laid = string_of(first, first_len, first_p), over = string_of(second, second_len, second_p);
+    return overlap_part(&laid, &over, part, part_len);
 }
