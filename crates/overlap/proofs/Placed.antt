@@ -7,7 +7,7 @@ use Prim.Native.Nat.{ℕ, _+_, _-_, _^_, _<_, _≤_}
 use native.Mathlib.Omega.{arith}
 use borrow.Author.Tests.{eq-eqb, ne-eqb}
 use lib.Dec.{eqb}
-use lib.IntN.{pos, negsuc}
+use lib.IntN.{ℤ, pos, negsuc}
 use lib.ListN.{length, drop, length-drop}
 use base.Fml.{GName}
 use denote.Ref.{RefT, ptr, now}
@@ -54,6 +54,11 @@ module _ (a b : Laid) where
       pub agreed : agree a b ≡ true → pos 0 ≡ answered (overlapCall a b)
       unfolding overlapTests overlapCall
       agreed e = none-left (past (past (past all-left formed) shared) e)
+
+  -- the call without a place writes nothing
+  pub answers-alone : (z : ℤ) → z ≡ answered (overlapCall a b) → Does (overlapCall a b) z []
+  unfolding overlapCall allLeft
+  answers-alone z e = (e, refl)
 
   -- ---- what the answer of these tests tells
 
