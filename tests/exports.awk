@@ -102,8 +102,13 @@ function read_exports(    piece, n, i) {
     }
 }
 
-# A function from its name on. What its contract has to be follows from its name and its parameters.
+# A function from its name on. What its contract has to be follows from its name and its parameters. A lifetime, which slices
+# have in common where a part of one is handed on, is nothing to C.
 function read_export(text,    name, end, list, n, i) {
+    if (match(text, /^[a-z0-9_]+<'a>/)) {
+        sub(/<'a>/, "", text)
+        gsub(/&'a /, "\\&", text)
+    }
     name = substr(text, 1, index(text, "(") - 1)
     check(match(text, /^[a-z0-9_]+\([^()]*\) -> i64 /), name ": not a function that answers an i64")
     end = RLENGTH
@@ -114,6 +119,11 @@ function read_export(text,    name, end, list, n, i) {
     compare_clause(name, only_ensures(name, substr(text, end + 1)))
 }
 
+# A name with an underscore stands in brackets in a clause.
+function in_clause(name) {
+    return name ~ /_/ ? "«" name "»" : name
+}
+
 # The text behind a last comma is empty.
 function read_parameter(name, text,    word) {
     gsub(/^ | $/, "", text)
@@ -121,9 +131,9 @@ function read_parameter(name, text,    word) {
     split(text, word, ": ")
     check(word[2] in in_c, name ": the parameter " text)
     parameters = parameters ", " with(in_c[word[2]], word[1])
-    arguments = arguments " " with(in_request[word[2]], word[1])
-    if (word[2] == "&mut [u8]") written = written with("now (@ .exit) ∷ ", word[1])
-    if (word[2] == "&[u8]") seen = seen with("now (@ .exit) ∷ ", word[1])
+    arguments = arguments " " with(in_request[word[2]], in_clause(word[1]))
+    if (word[2] == "&mut [u8]") written = written with("now (@ .exit) ∷ ", in_clause(word[1]))
+    if (word[2] == "&[u8]") seen = seen with("now (@ .exit) ∷ ", in_clause(word[1]))
 }
 
 # What stands between the braces of the one clause of a contract.

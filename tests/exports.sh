@@ -65,7 +65,7 @@ in_requests() { damaged "crates/$requests" "$@"; }
 in_header() { damaged bbp.h "$@"; }
 
 # in_function FUNCTION EDIT SAYING - the edit is of that function, from its name up to its body.
-in_function() { in_sources "/fn $1\(/,/^\{/{ $2 }" "$1: $3"; }
+in_function() { in_sources "/fn $1(<'a>)?\(/,/^\{/{ $2 }" "$1: $3"; }
 
 symbols=("$@")
 count=$(compared "$crates" "$header" "$@") || exit 1
@@ -102,6 +102,11 @@ in_function bbp_sheet_read "s/sheet \.entry\)\) \(now \(list/list .entry)) (now 
     "arguments (now (list .entry)) (now (sheet .entry)) (now (sums .entry)), not"
 in_function bbp_post "s/ row block/ block row/" "arguments (now (ledger .entry)) p c block row "
 in_function bbp_post "s/ row block/ row 0/" "arguments (now (ledger .entry)) p c row 0 "
+in_function bbp_overlap "s/ «first_p»/ first_p/" "arguments (now (first .entry)) first_p (now (second .entry)) «second_p», not"
+in_function bbp_overlap_part "s/«second_p»/«first_p»/" "arguments (now (first .entry)) «first_p» (now (second .entry)) «first_p» "
+in_function bbp_overlap_part "s/ \(now \(second \.entry\)\)//" "arguments (now (first .entry)) «first_p» «second_p» (now "
+in_function bbp_overlap_part "s/second: &'a \[u8\]/second: \&'a [u16]/" "the parameter second: &[u16]"
+in_function bbp_overlap_part "s/now \(second \.exit\) ∷ //" "slices (now (part .exit) ∷ []) (now (first .exit) ∷ []) ⌝, not"
 in_function bbp_open "s/p: u64/p: u32/" "the parameter p: u32"
 in_function bbp_open "s/-> i64/-> i32/" "not a function that answers an i64"
 

@@ -1,4 +1,4 @@
--- All that is promised of runs, for any formula that meets what is asked, and so for Bellard's runs and for check runs.
+-- All that is promised of runs, for any formula that meets what is asked, and so for Bellard's runs and for check runs; and of digits.
 -- Assumes nothing.
 use native.Mathlib.Omega.{arith}
 use Rattle.series.specs.Names.{formulaOf}
@@ -7,6 +7,7 @@ use Rattle.series.specs.declared.Series.the-variants.{Bellard, Check}
 use Rattle.series.proofs.FewRows.{few-rows, near-positions}
 use Rattle.interval.proofs.Denominator.{whole-exists}
 use Rattle.interval.proofs.Premises.{positive, rest}
+use Rattle.overlap.proofs.Overlaps.{overlaps}
 use Rattle.settlement.specs.Runs.{Asked, EveryFormula, Runs}
 use Rattle.settlement.specs.RoundTrip.{Fits}
 use Rattle.settlement.proofs.Refused.{demand1}
@@ -48,4 +49,5 @@ runs = record {
   check-runs = every-formula _ (asked Check);
   bellard-squarings = every-formula _ (asked Bellard) .squarings (countable Bellard);
   check-squarings = every-formula _ (asked Check) .squarings (countable Check);
+  overlaps = overlaps;
 }

@@ -1,5 +1,5 @@
--- All that is promised of the runs of a formula, in one statement for every formula that meets what is asked of it; and that Bellard's runs
--- and check runs are two instances of it. Documents 01 and 02, slips 4, 5 and 7.
+-- All that is promised of the runs of a formula, in one statement for every formula that meets what is asked of it; that Bellard's runs
+-- and check runs are two instances of it; and what is promised of digits, which are of no formula. Documents 01 and 02, slips 4, 5, 7 and 8.
 use mathlib.Core.List.{List}
 use Prim.Native.Nat.{ℕ, _<_}
 use Rattle.series.specs.Series.{Formula, termCount}
@@ -9,6 +9,7 @@ use Rattle.series.specs.Fitting.{Position}
 use Rattle.interval.specs.Exact.{MakesWhole}
 use Rattle.interval.specs.Interval.{isCharged, Positive, RestBelowUnit}
 use Rattle.posting.specs.Posts.{Post}
+use Rattle.overlap.specs.Overlaps.{Overlaps}
 use Rattle.settlement.specs.Refused.{Demand1}
 use Rattle.settlement.specs.Agreement.{Demand2}
 use Rattle.settlement.specs.Settlement.{Filled, Demand3}
@@ -46,7 +47,7 @@ pub record Promised (F : Formula) : Type 0 where
 abbrev pub EveryFormula : Type 0
 EveryFormula = (F : Formula) → Asked F → Promised F
 
--- and for the two of the engine
+-- and for the two of the engine, with two strings of digits laid over each other
 pub record Runs : Type 0 where
   pub bellard-asked : Asked bellard
   pub check-asked : Asked check
@@ -54,3 +55,4 @@ pub record Runs : Type 0 where
   pub check-runs : Promised check
   pub bellard-squarings : Squarings bellard
   pub check-squarings : Squarings check
+  pub overlaps : Overlaps

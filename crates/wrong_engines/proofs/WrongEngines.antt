@@ -1,6 +1,6 @@
 -- The engine is none of the wrong engines. Closings part from it at p = 1, which settles thirty digits, or at p = 5, which settles
 -- twenty-nine, or on a full ledger whose total lies at the edge of a digit; tickets, halves and posts at p = 1 with one block, in rows 0 and 1; counts of
--- squarings at p = 1 and p = 51, in rows 0, 2 and 3, and at the last position; looks at a fresh ledger of p = 1.
+-- squarings at p = 1 and p = 51, in rows 0, 2 and 3, and at the last position; looks at a fresh ledger of p = 1; parts of two strings that differ.
 -- Assumes nothing.
 use mathlib.Core.Path.{_≡_, refl, sym, ap, ap₂, subst, _∙_}
 use mathlib.Core.Bool.{Bool, true, false, not, cond}
@@ -48,6 +48,9 @@ use Rattle.look.specs.Look.{unmarkedOf, unmarkedIn, lookTests, lookCall}
 use Rattle.closing.specs.Closing.{settledAt, digitsAt, closeBy, closeCall}
 use Rattle.closing.proofs.Closing.{nine-alone}
 use Rattle.closing.proofs.Encoded.{good-full, answer-by}
+use Rattle.overlap.specs.Strings.{holds, digitAt, isDigit, allDigits, inForm, later, earlier, share, sameAt, agree, further, skipped}
+use Rattle.overlap.specs.Calls.{overlapTests, overlapCall, Place, partPlace}
+use Rattle.overlap.specs.Overlaps.{string}
 use Rattle.settlement.specs.Settlement.{Filled, ClosesWith, rowSums, allSums}
 use Rattle.settlement.specs.Figures.{firstDigits, inRow}
 use Rattle.settlement.specs.Looks.{looking, Outcome, outcome, stepOutcome, stepBytes, plainOutcome, plainStep, twoTickets}
@@ -58,7 +61,7 @@ use Rattle.settlement.proofs.Figures.{spreads}
 use Rattle.settlement.proofs.Squarings.{squaring-figures-hold}
 use Rattle.settlement.proofs.Filler.{filled-exists}
 use Rattle.settlement.proofs.FirstDigits.{closes-with, first-digits}
-use Rattle.wrong_engines.specs.WrongEngines.{lim, AnswersAs, LeavesAs, ClosesAs, byRule, aboveZero, everyAdded, everySubtracted, sameDigits, WorksAs, oneSum, cutInBoth, cutInNeither, ownSigns, Way, byWorking, byQuoting, CountsAs, countedBy, rightOf, topBitToo, ofWholeE, inOneWord, ofWhole, RemainAs, TotalsAs, unmarkedNow, totalNow, LooksUntested, PostsAs, doesNothing, fillEntry, fillsFirst, alwaysNine, nineUnseen, alwaysEight, madeUp, oneLess, byTotal, withoutRow, withoutCarry, wrongSize, wordBound, towardZero, settledTowardZero, Met, ShutOut}
+use Rattle.wrong_engines.specs.WrongEngines.{lim, AnswersAs, LeavesAs, ClosesAs, byRule, aboveZero, everyAdded, everySubtracted, sameDigits, WorksAs, oneSum, cutInBoth, cutInNeither, ownSigns, Way, byWorking, byQuoting, CountsAs, countedBy, rightOf, topBitToo, ofWholeE, inOneWord, ofWhole, RemainAs, TotalsAs, unmarkedNow, totalNow, LooksUntested, PostsAs, doesNothing, fillEntry, fillsFirst, alwaysNine, nineUnseen, alwaysEight, madeUp, oneLess, byTotal, withoutRow, withoutCarry, wrongSize, wordBound, towardZero, settledTowardZero, Met, ShutOut, HandsAs, handedAtTwelve}
 
 -- 6A8885A308D313198A2E03707344A, the digits from position 5 on that a run settles
 abbrev fifthDigits : List ℕ
@@ -437,6 +440,12 @@ fills-first same =
     let z : _≡_ {A = ℕ} 128 36 = ap (λ (l : List ℕ). getD l 31 0) (same 1 1 refl one-post) in
     omega (arith, z)
 
+-- ---- parts: 243F from position 1 on, and 3E6A from position 3 on, which differ at position 4
+
+handed-at-twelve : HandsAs handedAtTwelve → ⊥
+unfolding handedAtTwelve partPlace overlapTests overlapCall refusedBy refusal inForm allDigits isDigit share holds agree allBelow sameAt digitAt later earlier skipped further hexText hexDigit
+handed-at-twelve same = let z : _≡_ {A = ℕ} 4 0 = ap (λ (w : Place). w .at) (same (string 4 0x243F 1) (string 4 0x3E6A 3)) in omega (arith, z)
+
 -- ---- arithmetic
 
 pub shut-out : ShutOut
@@ -471,6 +480,7 @@ shut-out = record {
   untested = untested;
   does-nothing = does-nothing;
   fills-first = fills-first;
+  handed-at-twelve = handed-at-twelve;
   product-in-a-word = (refl, λ e. omega (arith, e));
   rounded-toward-zero = (refl, refl);
 }
@@ -494,4 +504,5 @@ met = record {
   remain = λ ledger s total n e. look-is ledger s total n e .0;
   totals = λ ledger s total n e. look-is ledger s total n e .1;
   posts = λ p C range posts. refl;
+  hands = λ a b. refl;
 }

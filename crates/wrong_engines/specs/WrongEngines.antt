@@ -1,6 +1,6 @@
 -- The wrong engines that document 01 names under "Traps of this arithmetic" and "For those who test", where no edit of the code can be
--- them, wrong totals of the row sums, wrong halves of a ticket, wrong rules of charging, wrong counts of squarings, and wrong looks: each is
--- written down by what it answers or leaves, and `ShutOut` says that the engine is none of them. Nothing of the engine rests on these definitions.
+-- them, wrong totals of the row sums, wrong halves of a ticket, wrong rules of charging, wrong counts of squarings, wrong looks, and wrong parts of
+-- two strings: each is written down by what it answers or leaves, and `ShutOut` says that the engine is none of them. Nothing of the engine rests on these definitions.
 use mathlib.Core.Path.{_≡_}
 use mathlib.Core.Bool.{Bool, true, not, cond, _||_}
 use mathlib.Core.List.{List, [], _∷_, _++_, foldl}
@@ -30,6 +30,9 @@ use Rattle.posting.specs.Posts.{Post, postRefusal, postEntries, postAnswer, pos
 use Rattle.posting.specs.Calls.{sheetPostCall}
 use Rattle.look.specs.Look.{unmarkedIn, lookCall}
 use Rattle.closing.specs.Closing.{lowOf, highOf, settledAt, closeBy, closeCall}
+use Rattle.overlap.specs.Strings.{Laid, secondFurther, skipped}
+use Rattle.overlap.specs.Calls.{Place, place, partPlace}
+use Rattle.overlap.specs.Overlaps.{refusedWith}
 use Rattle.settlement.specs.Settlement.{Filled, allSums}
 
 abbrev pub lim : Limits
@@ -234,6 +237,16 @@ fillEntry s t =
 unfoldable pub fillsFirst : List ℕ → Post → List ℕ
 fillsFirst s a = cond (eqb (postRefusal lim (viewOf lim s) a) 0) (foldl fillEntry s (postEntries a)) s
 
+-- ---- parts of two strings of digits, by where they lie
+
+-- the engine hands out the part that P does
+abbrev pub HandsAs : (Laid → Laid → Place) → Type 0
+HandsAs P = (a b : Laid) → partPlace a b ≡ P a b
+
+-- the part is handed out where 12 is answered, too
+unfoldable pub handedAtTwelve : Laid → Laid → Place
+handedAtTwelve a b = cond (eqb (refusedWith a b) 12) (place (secondFurther a b) (skipped a b)) (partPlace a b)
+
 -- ---- arithmetic
 
 -- block bounds by i * K cut to 64 bits
@@ -262,6 +275,7 @@ pub record Met : Type 0 where
   pub remain : RemainAs (λ ledger s. unmarkedIn lim (bytesLeft (sheetPostCall lim ledger s) 0))
   pub totals : TotalsAs (λ ledger s. totalIn lim (bytesLeft (sheetPostCall lim ledger s) 0))
   pub posts : PostsAs (postBytes lim)
+  pub hands : HandsAs partPlace
 
 -- ---- the engine is none of the wrong ones
 
@@ -297,6 +311,7 @@ pub record ShutOut : Type 0 where
   pub untested : (A : List ℕ → List ℕ → List ℕ → ℕ) → LooksUntested A → ⊥
   pub does-nothing : PostsAs doesNothing → ⊥
   pub fills-first : PostsAs fillsFirst → ⊥
+  pub handed-at-twelve : HandsAs handedAtTwelve → ⊥
   -- at p = 2 ^ 60, C = 256, block 39 would be empty; it is not
   pub product-in-a-word : let K = termCount bellard (2 ^ 60) in
       (wordBound K 256 40 - wordBound K 256 39 ≡ 0) × (bound K 256 40 - bound K 256 39 ≡ 0 → ⊥)
