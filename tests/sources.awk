@@ -15,8 +15,9 @@ FNR == 1 { module = module_of(FILENAME) }
     if ($0 !~ /^(pub )?(extern "" )?fn /) fail(FILENAME ":" FNR ": a function that does not start its line")
     name = $0
     sub(/^.*fn /, "", name)
-    sub(/\(.*/, "", name)
+    sub(/(<'a>)?\(.*/, "", name)
     name = module "::" name
+    signature[name] = $0
     if (name in known) fail(name ": written twice")
     known[name]
     inside = /\{ *$/
@@ -46,6 +47,8 @@ END {
     compare_work("engine::work::bbp_check_work")
     compare_work("engine::work::bbp_check_work_lower")
     compare_work("engine::work::bbp_check_work_upper")
+    compare_returned("overlap::part")
+    compare_place("engine::overlaps::bbp_overlap_part", "overlap::part")
     print checks
 }
 
@@ -308,4 +311,17 @@ function compare_work(name,    seen, callee) {
     check("montgomery::power" in seen, name ": does not come to montgomery::power")
     check("lanes::powers" in seen, name ": does not come to lanes::powers")
     check("series::halves::by_halves" in seen, name ": does not come to series::halves::by_halves")
+}
+
+# A part of one of two lent slices is returned, and nothing that is copied.
+function compare_returned(name) {
+    check(name in known, name ": no source")
+    check(signature[name] ~ /\(first: &'a \[u8\], .*second: &'a \[u8\], .*\) -> &'a \[u8\]$/, \
+        name ": does not return a part of the slices first and second")
+}
+
+# What is said to C of a part is said of the one that is returned.
+function compare_place(name, part,    seen) {
+    reach(name, seen)
+    check(part in seen, name ": does not come to " part)
 }

@@ -3,7 +3,8 @@
 # term and of a group, have no branch but their own, nor has a function that they come to, in any module, but for loops
 # over the lanes. The doubling shifts by the bit, subtracts with wrapping and takes the smaller. The count of squarings
 # is made with the square. The recursion cuts at half of the count and calls itself for both parts. Working comes to no
-# quote. Then copies that are damaged in one way each have to fail.
+# quote. The part of two strings is returned, and the call that writes its place comes to it. Then copies that are
+# damaged in one way each have to fail.
 set -u
 crates=$1
 name=sources
@@ -42,7 +43,7 @@ in_module() {
 }
 
 # in_function FUNCTION EDIT - the edit is of that function alone.
-in_function() { in_module "${1%::*}" "/fn ${1##*::}\(/,/^\}/{ $2 }"; }
+in_function() { in_module "${1%::*}" "/fn ${1##*::}(<'a>)?\(/,/^\}/{ $2 }"; }
 
 # with MODULE CODE - the code is put behind the last line of the module.
 with() { printf '%s\n' "$2" >>"$(file_of "$1")"; }
@@ -192,6 +193,15 @@ in_module engine::quotes 's/ticket::quote/ticket::bill/'
 told "engine::quotes::bbp_quote: does not come to the ticket's quote"
 damaged ticket::squarings 's/series::squarings::/series::bills::/' \
     "engine::quotes::bbp_quote: does not come to series::squarings"
+
+# The part of two strings.
+part=overlap::part
+damaged $part "s/fn part<'a>/fn other<'a>/" "$part: no source"
+damaged $part "s/-> &'a \[u8\]/-> [u8; 30]/" "$part: does not return a part"
+damaged $part "s/second: &'a \[u8\]/second: [u8; 30]/" "$part: does not return a part"
+damaged overlap::overlap_part 's/= part\(/= copied(/' "engine::overlaps::bbp_overlap_part: does not come to $part"
+damaged engine::overlaps::bbp_overlap_part 's/overlap::overlap_part\(/overlap::place_of(/' \
+    "engine::overlaps::bbp_overlap_part: does not come to $part"
 
 # What is not read.
 in_module words 's/^pub fn add/    &/'

@@ -15,9 +15,9 @@ use Rattle.digits.specs.Digits.{hexDigit, hexText}
 use Rattle.run.specs.Refusal.{refusal}
 use Rattle.run.specs.Call.{refusedBy}
 use Rattle.run.proofs.Calls.{leaves}
-use Rattle.overlap.specs.Strings.{Laid, laid, end, holds, digitAt, isDigit, allDigits, inForm, later, earlier, share, sameAt, agree, further, skipped}
-use Rattle.overlap.specs.Calls.{overlapTests, overlapCall, Place, partPlace, partOf, IsRest, IsPart, placeBytes, overlapPartCall}
-use Rattle.overlap.specs.Overlaps.{refusedWith, Names, WithPlace, NamesThePart, AllHold, figures, Overlaps}
+use Rattle.overlap.specs.Strings.{laid, holds, digitAt, isDigit, allDigits, inForm, later, earlier, share, sameAt, agree, further, skipped}
+use Rattle.overlap.specs.Calls.{overlapTests, overlapCall, Place, partPlace, IsRest, placeBytes, overlapPartCall}
+use Rattle.overlap.specs.Overlaps.{Names, NamesThePart, AllHold, figures, Overlaps}
 use Rattle.overlap.proofs.Strings.{numbers, short}
 use Rattle.overlap.proofs.Parts.{handed, swapped, over-itself}
 use Rattle.overlap.proofs.Placed.{part-digits, other-size, same-answer, written}
@@ -97,6 +97,7 @@ overlaps = record {
   handed = handed;
   swapped = swapped;
   over-itself = over-itself;
+  returns-the-part = part-digits;
   with-place = λ a b out. record { same-answer = same-answer a b out; other-size = λ h. sym (other-size a b out h .0) };
   names-the-part = names-the-part;
   figures-hold = figures-hold;

@@ -1,6 +1,6 @@
 -- The part of two strings: where it lies, what it holds, and what becomes of it where the strings are swapped or equal.
 -- Assumes nothing.
-use mathlib.Core.Path.{_≡_, refl, sym, ap, subst, _∙_}
+use mathlib.Core.Path.{_≡_, refl, sym, ap, _∙_}
 use mathlib.Core.Bool.{Bool, true, false, not, cond}
 use mathlib.Core.List.{List, []}
 use mathlib.Core.Logic.{_⊎_, inl, inr, ⊎-elim}
@@ -12,10 +12,10 @@ use lib.ListN.{length, getD, drop, length-drop}
 use lib.Seq.{drop-length, getD-drop, ext-getD}
 use Rattle.run.specs.Refusal.{refusal}
 use Rattle.run.specs.Call.{refusedBy}
-use Rattle.overlap.specs.Strings.{Laid, laid, end, holds, digitAt, inForm, later, firstShared, secondFurther, further, skipped, stretch}
+use Rattle.overlap.specs.Strings.{Laid, laid, end, digitAt, inForm, later, firstShared, secondFurther, further, skipped, stretch}
 use Rattle.overlap.specs.Calls.{overlapTests, overlapCall, Place, place, partPlace, digitsOf, partOf}
 use Rattle.overlap.specs.Overlaps.{refusedWith, Shared, Handed, Swapped, OverItself}
-use Rattle.overlap.proofs.Strings.{Later, is-later, held, holds-at, Short, short, first-shared, numbers}
+use Rattle.overlap.proofs.Strings.{Later, is-later, held, holds-at, short, first-shared, numbers}
 
 -- ---- the string that reaches further
 

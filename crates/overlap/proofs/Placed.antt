@@ -6,7 +6,6 @@ use mathlib.Core.List.{List, [], _∷_, _++_}
 use Prim.Native.Nat.{ℕ, _+_, _-_, _^_, _<_, _≤_}
 use native.Mathlib.Omega.{arith}
 use borrow.Author.Tests.{eq-eqb, ne-eqb}
-use lib.Dec.{eqb}
 use lib.IntN.{ℤ, pos, negsuc}
 use lib.ListN.{length, drop, length-drop}
 use base.Fml.{GName}
@@ -26,9 +25,9 @@ use Rattle.run.proofs.Testing.{Left, here, past, none-left}
 use Rattle.run.proofs.Calls.{refuses, finishes, was-worked}
 use Rattle.overlap.specs.Strings.{Laid, laid, end, inForm, firstShared, share, agree, secondFurther, further, skipped}
 use Rattle.overlap.specs.Calls.{overlapTests, overlapCall, Place, place, partPlace, digitsOf, partOf, IsRest, IsPart, placeBytes, overlapPartTests, overlapPartCall}
-use Rattle.overlap.specs.Overlaps.{refusedWith, WithPlace}
-use Rattle.overlap.proofs.Strings.{held, Short, short, numbers}
-use Rattle.overlap.proofs.Parts.{place-taken, place-refused, there, is-further}
+use Rattle.overlap.specs.Overlaps.{refusedWith}
+use Rattle.overlap.proofs.Strings.{held, short, numbers}
+use Rattle.overlap.proofs.Parts.{place-taken, place-refused, there}
 
 -- ---- the tests, one after another
 

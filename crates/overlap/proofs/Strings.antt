@@ -6,14 +6,14 @@ use mathlib.Core.Logic.{_↔_, _⊎_, inl, inr, ⊎-elim}
 use Prim.Native.Nat.{ℕ, _+_, _-_, _^_, _<_, _≤_}
 use native.Mathlib.Omega.{arith}
 use borrow.Author.Tests.{ltb-true, ltb-false, leb-true, lt-ltb, le-leb, eqb-true, eqb-false, eq-eqb, ne-eqb}
-use lib.Dec.{leb, ltb, eqb}
+use lib.Dec.{leb, ltb}
 use lib.ListN.{length}
 use Rattle.algebra.specs.Test.{allBelow}
 use Rattle.algebra.proofs.Booleans.{and-left, and-right, and-both, not-both}
 use Rattle.algebra.proofs.Below.{all-true, all-at, below-false, fails-at, below-none, below-next}
 use Rattle.run.specs.Refusal.{refusal}
 use Rattle.run.specs.Call.{refusedBy}
-use Rattle.overlap.specs.Strings.{Laid, end, holds, digitAt, allDigits, inForm, later, earlier, firstShared, sharedEnd, share, sameAt, agree}
+use Rattle.overlap.specs.Strings.{Laid, end, holds, digitAt, inForm, later, earlier, firstShared, sharedEnd, share, sameAt, agree}
 use Rattle.overlap.specs.Calls.{overlapTests, overlapCall}
 use Rattle.overlap.specs.Overlaps.{refusedWith, BothInForm, Shared, Numbers}
 

@@ -1,6 +1,6 @@
 -- What holds of two digit strings laid over each other, whatever strings and positions. Document 02, slip 8.
 use mathlib.Core.Path.{_≡_}
-use mathlib.Core.Bool.{Bool, true, false, not, cond}
+use mathlib.Core.Bool.{true, false, not, cond}
 use mathlib.Core.List.{List, [], _∷_}
 use mathlib.Core.Logic.{_↔_, _⊎_}
 use Prim.Native.Nat.{ℕ, _+_, _^_, _≤_}
@@ -59,6 +59,11 @@ pub record OverItself (a : Laid) : Type 0 where
   pub taken : refusedWith a a ≡ 0
   pub whole : partPlace a a ≡ place false 0
   pub digits : partOf a a ≡ a .digits
+
+-- what the function that hands out a part returns is this part
+abbrev pub ReturnsThePart : Type 0
+ReturnsThePart =
+    (first second r : RefT (List ℕ)) (p q : ℕ) → IsPart first p second q r → now r ≡ partOf (laid (now first) p) (laid (now second) q)
 
 -- ---- to C
 
@@ -132,6 +137,7 @@ pub record Overlaps : Type 0 where
   pub handed : (a b : Laid) → Handed a b
   pub swapped : (a b : Laid) → Swapped a b
   pub over-itself : (a : Laid) → inForm a ≡ true → OverItself a
+  pub returns-the-part : ReturnsThePart
   pub with-place : (a b : Laid) (out : List ℕ) → WithPlace a b out
   pub names-the-part : NamesThePart
   pub figures-hold : AllHold figures

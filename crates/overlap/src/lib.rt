@@ -192,13 +192,7 @@ pub fn put_place(out: &mut [u8], which: u64, at: u64, len: u64)
 
 // Writes where the part lies. All tests are done before a byte is written. As the part reaches to its string's end, its
 // offset is what its length leaves of that string's.
-pub fn overlap_part<'a>(
-    first: &'a [u8],
-    p: u64,
-    second: &'a [u8],
-    q: u64,
-    out: &mut [u8],
-) -> Answer
+pub fn overlap_part<'a>(first: &'a [u8], p: u64, second: &'a [u8], q: u64, out: &mut [u8]) -> Answer
     ensures { λ r. ⌜
         Does (overlapPartCall (laid (now (first .entry)) p) (laid (now (second .entry)) q) (now (out .entry))) (answerOf r)
         (now (out .exit) ∷ [])
