@@ -1,10 +1,10 @@
 -- Hexadecimal digits: those that the distance between two whole numbers settles, and their characters. Document 01, "Closing".
 use mathlib.Core.Path.{_≡_}
-use mathlib.Core.Bool.{cond}
+use mathlib.Core.Bool.{Bool, cond, _&&_, _||_}
 use mathlib.Core.List.{List, [], _∷_}
 use mathlib.Core.Logic.{_⊎_}
 use Prim.Native.Nat.{ℕ, zero, suc, _+_, _*_, _-_, _/_, _%_, _^_, _≤_}
-use lib.Dec.{ltb}
+use lib.Dec.{leb, ltb}
 use lib.IntN.{ℤ}
 use Rattle.algebra.specs.Whole.{quotient, residue, sameℤ}
 
@@ -47,6 +47,10 @@ settled lo hi = settledUpTo lo hi 32
 -- the character of a digit, 0-9A-F
 unfoldable pub hexDigit : ℕ → ℕ
 hexDigit v = cond (ltb v 10) (48 + v) (55 + v)
+
+-- whether a character is one of these
+unfoldable pub isDigit : ℕ → Bool
+isDigit c = (leb 48 c && leb c 57) || (leb 65 c && leb c 70)
 
 -- the lowest d hexadecimal digits of x, the highest first
 unfoldable pub hexText : ℕ → ℕ → List ℕ

@@ -5,7 +5,7 @@ ghost use Prim.Native.Nat.{_+_, _/_, _%_, _<_, _≤_};
 ghost use lib.IntN.{pos};
 ghost use lib.ListN.{length, drop};
 ghost use Rattle.words.specs.Words.{joined};
-ghost use Rattle.digits.specs.Digits.{unitAt, settled, hexDigit, lowDigits};
+ghost use Rattle.digits.specs.Digits.{unitAt, settled, hexDigit, isDigit, lowDigits};
 use words::Wide;
 
 // Hexadecimal digit i of x, the highest being digit 0.
@@ -44,6 +44,22 @@ pub fn hex_digit(v: u64) -> u8
     } else {
         (55 + v) as u8
     }
+}
+
+// Whether a character is that of a digit.
+pub fn is_digit(c: u8) -> bool
+    ensures { λ r. ⌜ r ≡ isDigit c ⌝ }
+{
+    if c < 48 {
+        return false;
+    }
+    if c <= 57 {
+        return true;
+    }
+    if c < 65 {
+        return false;
+    }
+    c <= 70
 }
 
 // The d highest digits of x, as characters, over the first d bytes.

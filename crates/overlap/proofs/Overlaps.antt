@@ -11,11 +11,12 @@ use denote.Ref.{RefT, ptr, now}
 use Rattle.algebra.specs.Test.{allBelow}
 use Rattle.words.specs.Bytes.{bytesOf, field}
 use Rattle.words.proofs.Bytes.{field-written}
-use Rattle.digits.specs.Digits.{hexDigit, hexText}
+use Rattle.digits.specs.Digits.{hexDigit, isDigit, hexText}
+use Rattle.digits.proofs.Characters.{characters}
 use Rattle.run.specs.Refusal.{refusal}
 use Rattle.run.specs.Call.{refusedBy}
 use Rattle.run.proofs.Calls.{leaves}
-use Rattle.overlap.specs.Strings.{laid, holds, digitAt, isDigit, allDigits, inForm, later, earlier, share, sameAt, agree, further, skipped}
+use Rattle.overlap.specs.Strings.{laid, holds, digitAt, allDigits, inForm, later, earlier, share, sameAt, agree, further, skipped}
 use Rattle.overlap.specs.Calls.{overlapTests, overlapCall, Place, partPlace, IsRest, placeBytes, overlapPartCall}
 use Rattle.overlap.specs.Overlaps.{Names, NamesThePart, AllHold, figures, Overlaps}
 use Rattle.overlap.proofs.Strings.{numbers, short}
@@ -93,6 +94,7 @@ figures-hold =
 
 pub overlaps : Overlaps
 overlaps = record {
+  characters = characters;
   numbers = numbers;
   handed = handed;
   swapped = swapped;

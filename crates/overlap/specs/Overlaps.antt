@@ -3,13 +3,13 @@ use mathlib.Core.Path.{_≡_}
 use mathlib.Core.Bool.{true, false, not, cond}
 use mathlib.Core.List.{List, [], _∷_}
 use mathlib.Core.Logic.{_↔_, _⊎_}
-use Prim.Native.Nat.{ℕ, _+_, _^_, _≤_}
+use Prim.Native.Nat.{ℕ, _+_, _^_, _<_, _≤_}
 use lib.Dec.{eqb}
 use lib.IntN.{pos, negℤ}
 use lib.ListN.{length}
 use denote.Ref.{RefT, ptr, now}
 use Rattle.words.specs.Bytes.{field}
-use Rattle.digits.specs.Digits.{hexText}
+use Rattle.digits.specs.Digits.{hexDigit, isDigit, hexText}
 use Rattle.run.specs.Call.{refusedBy, answered, bytesLeft}
 use Rattle.overlap.specs.Strings.{Laid, laid, end, holds, digitAt, inForm, firstShared, further, stretch}
 use Rattle.overlap.specs.Calls.{overlapCall, Place, place, partPlace, partOf, IsPart, overlapPartCall}
@@ -133,6 +133,8 @@ figures =
 -- ---- all of it
 
 pub record Overlaps : Type 0 where
+  -- the characters that are taken are those that closings are written with
+  pub characters : (c : ℕ) → (isDigit c ≡ true) ↔ ((v : ℕ) × (v < 16) × (hexDigit v ≡ c))
   pub numbers : (a b : Laid) → Numbers a b
   pub handed : (a b : Laid) → Handed a b
   pub swapped : (a b : Laid) → Swapped a b

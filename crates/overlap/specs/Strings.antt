@@ -1,10 +1,11 @@
 -- Two digit strings laid over each other: what each holds, what both hold, and the part that reaches further. Document 02, slip 8.
-use mathlib.Core.Bool.{Bool, true, cond, _&&_, _||_}
+use mathlib.Core.Bool.{Bool, true, cond, _&&_}
 use mathlib.Core.List.{List, [], _∷_}
 use Prim.Native.Nat.{ℕ, _+_, _-_, _^_}
 use lib.Dec.{leb, ltb, eqb}
 use lib.ListN.{length, getD, drop}
 use Rattle.algebra.specs.Test.{allBelow}
+use Rattle.digits.specs.Digits.{isDigit}
 
 -- ---- one string
 
@@ -28,10 +29,7 @@ holds s n = leb (s .from) n && ltb n (end s)
 unfoldable pub digitAt : Laid → ℕ → ℕ
 digitAt s n = getD (s .digits) (n - s .from) 0
 
--- a character 0-9A-F
-unfoldable pub isDigit : ℕ → Bool
-isDigit c = (leb 48 c && leb c 57) || (leb 65 c && leb c 70)
-
+-- every character is one of 0-9A-F
 unfoldable pub allDigits : List ℕ → Bool
 allDigits [] = true
 allDigits (c ∷ cs) = isDigit c && allDigits cs

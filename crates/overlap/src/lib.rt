@@ -10,32 +10,17 @@ ghost use lib.ListN.{length};
 ghost use Rattle.words.specs.Bytes.{bytesOf};
 ghost use Rattle.run.specs.Call.{Does, answered};
 ghost use Rattle.run.specs.Answers.{answerOf};
-ghost use Rattle.overlap.specs.Strings.{laid, end, isDigit, allDigits, inForm, secondFurther};
+ghost use Rattle.overlap.specs.Strings.{laid, end, allDigits, inForm, secondFurther};
 ghost use Rattle.overlap.specs.Strings as definition;
 ghost use Rattle.overlap.specs.Calls.{overlapCall, overlapPartCall, IsPart};
 
-// Whether a character is a digit, 0-9A-F.
-pub fn is_digit(c: u8) -> bool
-    ensures { λ r. ⌜ r ≡ isDigit c ⌝ }
-{
-    if c < 48 {
-        return false;
-    }
-    if c <= 57 {
-        return true;
-    }
-    if c < 65 {
-        return false;
-    }
-    c <= 70
-}
-
+// Whether every character is a digit.
 pub fn all_digits(s: &[u8]) -> bool
     ensures { λ r. ⌜ r ≡ allDigits (now (s .entry)) ⌝ }
 {
     let mut i = 0;
     while i < s.len() {
-        if !is_digit(s[i]) {
+        if !digits::is_digit(s[i]) {
             return false;
         }
         i += 1;

@@ -25,7 +25,7 @@ use Rattle.series.specs.Series.{modulus, size, isAdded, termCount, onSide, rowS
 use Rattle.series.specs.Squarings.{squarings, rangeSquarings}
 use Rattle.series.specs.Bellard.{bellard}
 use Rattle.series.specs.declared.Series.the-variants.{Bellard}
-use Rattle.digits.specs.Digits.{settledUpTo, settled, hexDigit, hexText, lowDigits}
+use Rattle.digits.specs.Digits.{settledUpTo, settled, hexDigit, isDigit, hexText, lowDigits}
 use Rattle.interval.specs.Interval.{Rule, isCharged, everyTerm, charges, low, high}
 use Rattle.run.specs.Refusal.{_⇐_, refusal, answer}
 use Rattle.run.proofs.Answering as answering
@@ -48,7 +48,7 @@ use Rattle.look.specs.Look.{unmarkedOf, unmarkedIn, lookTests, lookCall}
 use Rattle.closing.specs.Closing.{settledAt, digitsAt, closeBy, closeCall}
 use Rattle.closing.proofs.Closing.{nine-alone}
 use Rattle.closing.proofs.Encoded.{good-full, answer-by}
-use Rattle.overlap.specs.Strings.{holds, digitAt, isDigit, allDigits, inForm, later, earlier, share, sameAt, agree, further, skipped}
+use Rattle.overlap.specs.Strings.{holds, digitAt, allDigits, inForm, later, earlier, share, sameAt, agree, further, skipped}
 use Rattle.overlap.specs.Calls.{overlapTests, overlapCall, Place, partPlace}
 use Rattle.overlap.specs.Overlaps.{string}
 use Rattle.settlement.specs.Settlement.{Filled, ClosesWith, rowSums, allSums}

@@ -10,7 +10,8 @@ use borrow.Author.Needs.{needs}
 use borrow.Author.Tests.{not-true, not-false}
 use lib.ListN.{length, getD, drop, drop-of-length-le}
 use lib.Seq.{drop-cons}
-use Rattle.overlap.specs.Strings.{isDigit, allDigits}
+use Rattle.digits.specs.Digits.{isDigit}
+use Rattle.overlap.specs.Strings.{allDigits}
 use Rattle.overlap.proofs.all_digits.Statement.{statement}
 use Rattle.overlap.proofs.all_digits.Tie as tie
 

@@ -1,4 +1,4 @@
--- `overlap::is_digit` meets its contract: one law for each way out.
+-- `digits::is_digit` meets its contract: one law for each way out.
 -- Assumes nothing.
 use mathlib.Core.Path.{_≡_, refl}
 use mathlib.Core.Bool.{true, false}
@@ -6,9 +6,9 @@ use Prim.Native.Nat.{ℕ, _≤_, _<_}
 use native.Mathlib.Omega.{arith}
 use borrow.Author.Tests.{le-leb, lt-leb}
 use lib.Dec.{leb}
-use Rattle.overlap.specs.Strings.{isDigit}
-use Rattle.overlap.proofs.is_digit.Statement.{statement}
-use Rattle.overlap.proofs.is_digit.Tie as tie
+use Rattle.digits.specs.Digits.{isDigit}
+use Rattle.digits.proofs.is_digit.Statement.{statement}
+use Rattle.digits.proofs.is_digit.Tie as tie
 
 module _ (c : ℕ) where
   below : c < 48 → false ≡ isDigit c
