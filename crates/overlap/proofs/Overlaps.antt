@@ -16,7 +16,7 @@ use Rattle.digits.proofs.Characters.{characters}
 use Rattle.run.specs.Refusal.{refusal}
 use Rattle.run.specs.Call.{refusedBy}
 use Rattle.run.proofs.Calls.{leaves}
-use Rattle.overlap.specs.Strings.{laid, holds, digitAt, allDigits, inForm, later, earlier, share, sameAt, agree, further, skipped}
+use Rattle.overlap.specs.Strings.{laid, holds, digitAt, allDigits, inForm, later, share, sameAt, agree, further, skipped}
 use Rattle.overlap.specs.Calls.{overlapTests, overlapCall, Place, partPlace, IsRest, placeBytes, overlapPartCall}
 use Rattle.overlap.specs.Overlaps.{Names, NamesThePart, AllHold, figures, Overlaps}
 use Rattle.overlap.proofs.Strings.{numbers, short}
@@ -88,7 +88,7 @@ names-the-part first second r p q out part room e =
     (named first second r (partPlace a b) part (short a (f .0) .few) (short b (f .1) .few))
 
 figures-hold : AllHold figures
-unfolding AllHold overlapCall refusedBy refusal overlapTests partPlace inForm allDigits isDigit share holds agree allBelow sameAt digitAt later earlier skipped further hexText hexDigit
+unfolding AllHold overlapCall refusedBy refusal overlapTests partPlace inForm allDigits isDigit share holds agree allBelow sameAt digitAt later skipped further hexText hexDigit
 figures-hold =
     ((refl, refl), ((refl, refl), ((refl, refl), ((refl, refl), ((refl, refl), ((refl, refl), ((refl, refl), ((refl, refl), ((refl, refl), ((refl, refl), ((refl, refl), ((refl, refl), ((refl, refl), ((refl, refl), tt))))))))))))))
 

@@ -1,7 +1,7 @@
 -- What a string holds, what two strings share, and where they agree, as facts in place of tests; and the number that refuses them.
 -- Assumes nothing.
 use mathlib.Core.Path.{_≡_, refl, sym, ap, subst, _∙_}
-use mathlib.Core.Bool.{Bool, true, false, not, cond, _&&_}
+use mathlib.Core.Bool.{Bool, true, false, not, cond, _&&_, _||_}
 use mathlib.Core.Logic.{_↔_, _⊎_, inl, inr, ⊎-elim}
 use Prim.Native.Nat.{ℕ, _+_, _-_, _^_, _<_, _≤_}
 use native.Mathlib.Omega.{arith}
@@ -13,11 +13,11 @@ use Rattle.algebra.proofs.Booleans.{and-left, and-right, and-both, not-both}
 use Rattle.algebra.proofs.Below.{all-true, all-at, below-false, fails-at, below-none, below-next}
 use Rattle.run.specs.Refusal.{refusal}
 use Rattle.run.specs.Call.{refusedBy}
-use Rattle.overlap.specs.Strings.{Laid, end, holds, digitAt, inForm, later, earlier, firstShared, sharedEnd, share, sameAt, agree}
+use Rattle.overlap.specs.Strings.{Laid, end, holds, digitAt, inForm, later, firstShared, share, sameAt, agree}
 use Rattle.overlap.specs.Calls.{overlapTests, overlapCall}
 use Rattle.overlap.specs.Overlaps.{refusedWith, BothInForm, Shared, Numbers}
 
--- ---- the later and the earlier of two positions
+-- ---- the later of two positions
 
 pub record Later (m n k : ℕ) : Type 0 where
   pub left : m ≤ k
@@ -31,19 +31,6 @@ is-later m n = go (ltb m n) refl
     go : (b : Bool) → ltb m n ≡ b → Later m n (cond b n m)
     go true e = let h = ltb-true m n e in record { left = omega arith; right = omega arith; one = inr refl }
     go false e = let h = ltb-false m n e in record { left = omega arith; right = omega arith; one = inl refl }
-
-pub record Earlier (m n k : ℕ) : Type 0 where
-  pub left : k ≤ m
-  pub right : k ≤ n
-  pub one : (k ≡ m) ⊎ (k ≡ n)
-
-pub is-earlier : (m n : ℕ) → Earlier m n (earlier m n)
-unfolding earlier
-is-earlier m n = go (ltb m n) refl
-  where
-    go : (b : Bool) → ltb m n ≡ b → Earlier m n (cond b m n)
-    go true e = let h = ltb-true m n e in record { left = omega arith; right = omega arith; one = inl refl }
-    go false e = let h = ltb-false m n e in record { left = omega arith; right = omega arith; one = inr refl }
 
 -- ---- one string
 
@@ -75,6 +62,14 @@ short s e =
 
 -- ---- two strings
 
+-- where the second holds a position, and where the test fails
+second-decides : (t u : Bool) → (not t || u) ≡ true → t ≡ true → u ≡ true
+second-decides t u e h = sym (rw h refl) ∙ e
+
+neither : (t u : Bool) → (not t || u) ≡ false → (t ≡ true) × (u ≡ false)
+neither true u e = (refl, e)
+neither false u e = absurd (not-both true refl e)
+
 module _ (a b : Laid) where
   pub first-shared : (n : ℕ) → Shared a b n → firstShared a b ≤ n
   first-shared n h =
@@ -99,22 +94,18 @@ module _ (a b : Laid) where
   unfolding agree sameAt
   same-digit e n h =
       let x = held a n (h .0) in
-      let y = held b n (h .1) in
-      let f = first-shared n h in
-      let s : n < sharedEnd a b = ⊎-elim (λ q. omega (arith, q, x)) (λ q. omega (arith, q, y)) (is-earlier (end a) (end b) .one) in
-      let at : firstShared a b + (n - firstShared a b) ≡ n = omega arith in
-      let t = all-at (sharedEnd a b - firstShared a b) (λ i. sameAt a b (firstShared a b + i)) e (n - firstShared a b) (omega arith) in
-      eqb-true _ _ (subst (λ (m : ℕ). sameAt a b m ≡ true) at t)
+      let at : a .from + (n - a .from) ≡ n = omega arith in
+      let t = all-at (length (a .digits)) (λ i. not (holds b (a .from + i)) || sameAt a b (a .from + i)) e (n - a .from) (omega arith) in
+      eqb-true _ _ (second-decides _ _ (subst (λ (m : ℕ). (not (holds b m) || sameAt a b m) ≡ true) at t) (h .1))
 
   pub some-differ : agree a b ≡ false → (n : ℕ) × Shared a b n × (digitAt a n ≡ digitAt b n → ⊥)
   unfolding agree sameAt
   some-differ e =
-      let i = fails-at (sharedEnd a b - firstShared a b) (λ i. sameAt a b (firstShared a b + i)) e in
-      let n = firstShared a b + i .0 in
-      let l = is-later (a .from) (b .from) in
-      let s = is-earlier (end a) (end b) in
+      let i = fails-at (length (a .digits)) (λ i. not (holds b (a .from + i)) || sameAt a b (a .from + i)) e in
       let h = i .1 in
-      (n, (holds-at a n (omega (arith, l .left)) (omega (arith, s .left, h)), holds-at b n (omega (arith, l .right)) (omega (arith, s .right, h))), eqb-false _ _ (i .2))
+      let n = a .from + i .0 in
+      let both = neither _ _ (i .2) in
+      (n, (holds-at a n (omega arith) (omega arith), both .0), eqb-false _ _ (both .1))
 
   pub all-agree : ((n : ℕ) → Shared a b n → digitAt a n ≡ digitAt b n) → agree a b ≡ true
   all-agree h = go (agree a b) refl
@@ -123,46 +114,45 @@ module _ (a b : Laid) where
       go true e = refl
       go false e = let d = some-differ e in absurd (d .2 (h (d .0) (d .1)))
 
--- ---- a loop over the shared positions
+-- ---- a loop over the positions of the first
 
 module _ (a b : Laid) where
   -- the strings agree before position n
   pub record AgreeTo (n : ℕ) : Type 0 where
-    pub from : firstShared a b ≤ n
-    pub so-far : allBelow (n - firstShared a b) (λ i. sameAt a b (firstShared a b + i)) ≡ true
+    pub from : a .from ≤ n
+    pub so-far : allBelow (n - a .from) (λ i. not (holds b (a .from + i)) || sameAt a b (a .from + i)) ≡ true
 
-  pub agree-start : (n : ℕ) → n ≡ firstShared a b → AgreeTo n
-  agree-start n e =
-      let z : n - firstShared a b ≡ 0 = omega arith in
-      record { from = omega arith; so-far = rw z (below-none (λ i. sameAt a b (firstShared a b + i))) }
+  pub agree-start : AgreeTo (a .from)
+  agree-start =
+      let z : a .from - a .from ≡ 0 = omega arith in
+      record { from = omega arith; so-far = rw z (below-none (λ i. not (holds b (a .from + i)) || sameAt a b (a .from + i))) }
 
   module _ (n : ℕ) (k : AgreeTo n) where
-    there : firstShared a b + (n - firstShared a b) ≡ n
-    there = omega arith
+    there : (t : Bool) → (not (holds b n) || sameAt a b n) ≡ t
+        → (not (holds b (a .from + (n - a .from))) || sameAt a b (a .from + (n - a .from))) ≡ t
+    there t e = let at : a .from + (n - a .from) ≡ n = omega arith in ap (λ (m : ℕ). not (holds b m) || sameAt a b m) at ∙ e
 
-    same-there : (t : Bool) → sameAt a b n ≡ t → sameAt a b (firstShared a b + (n - firstShared a b)) ≡ t
-    same-there t e = ap (sameAt a b) there ∙ e
+    further-on : (not (holds b n) || sameAt a b n) ≡ true → AgreeTo (n + 1)
+    further-on e =
+        let one : n + 1 - a .from ≡ n - a .from + 1 = omega arith in
+        record { from = omega arith; so-far = rw one (below-next (n - a .from) _ (k .so-far) (there true e)) }
 
-    pub agree-next : digitAt a n ≡ digitAt b n → AgreeTo (n + 1)
+    pub agree-next : holds b n ≡ true → digitAt a n ≡ digitAt b n → AgreeTo (n + 1)
     unfolding sameAt
-    agree-next e =
-        let one : n + 1 - firstShared a b ≡ n - firstShared a b + 1 = omega arith in
-        record { from = omega arith; so-far = rw one (below-next (n - firstShared a b) _ (k .so-far) (same-there true (eq-eqb _ _ e))) }
+    agree-next h e = further-on (rw (h, eq-eqb (digitAt a n) (digitAt b n) e) refl)
 
-    pub both-hold-next : n < sharedEnd a b → Shared a b n
-    both-hold-next h =
-        let l = is-later (a .from) (b .from) in
-        let s = is-earlier (end a) (end b) in
-        (holds-at a n (omega (arith, l .left)) (omega (arith, s .left)), holds-at b n (omega (arith, l .right)) (omega (arith, s .right)))
+    pub agree-past : holds b n ≡ false → AgreeTo (n + 1)
+    agree-past h = further-on (rw h refl)
 
-    pub agree-stops : n < sharedEnd a b → (digitAt a n ≡ digitAt b n → ⊥) → false ≡ agree a b
+    pub agree-stops : n < end a → holds b n ≡ true → (digitAt a n ≡ digitAt b n → ⊥) → false ≡ agree a b
     unfolding agree sameAt
-    agree-stops h d = sym (below-false (sharedEnd a b - firstShared a b) _ (n - firstShared a b) (omega arith) (same-there false (ne-eqb _ _ d)))
+    agree-stops l h d =
+        sym (below-false (length (a .digits)) _ (n - a .from) (omega arith) (there false (rw (h, ne-eqb (digitAt a n) (digitAt b n) d) refl)))
 
-    pub agree-all : sharedEnd a b ≤ n → true ≡ agree a b
+    pub agree-all : end a ≤ n → true ≡ agree a b
     unfolding agree
     agree-all h =
-        sym (all-true (sharedEnd a b - firstShared a b) _ (λ i l. all-at (n - firstShared a b) (λ i. sameAt a b (firstShared a b + i)) (k .so-far) i (omega arith)))
+        sym (all-true (length (a .digits)) _ (λ i l. all-at (n - a .from) (λ i. not (holds b (a .from + i)) || sameAt a b (a .from + i)) (k .so-far) i (omega arith)))
 
 -- ---- the number
 

@@ -1,5 +1,5 @@
 -- Two digit strings laid over each other: what each holds, what both hold, and the part that reaches further. Document 02, slip 8.
-use mathlib.Core.Bool.{Bool, true, cond, _&&_}
+use mathlib.Core.Bool.{Bool, true, not, cond, _&&_, _||_}
 use mathlib.Core.List.{List, [], _∷_}
 use Prim.Native.Nat.{ℕ, _+_, _-_, _^_}
 use lib.Dec.{leb, ltb, eqb}
@@ -40,19 +40,13 @@ inForm s = (leb 1 (length (s .digits)) && leb (length (s .digits)) 30) && ((leb 
 
 -- ---- two strings
 
--- the later of two positions, and the earlier
+-- the later of two positions
 unfoldable pub later : ℕ → ℕ → ℕ
 later m n = cond (ltb m n) n m
 
-unfoldable pub earlier : ℕ → ℕ → ℕ
-earlier m n = cond (ltb m n) m n
-
--- the first position that both hold, and the one behind the last, where there is any
+-- the first position that both hold, where there is one
 abbrev pub firstShared : Laid → Laid → ℕ
 firstShared a b = later (a .from) (b .from)
-
-abbrev pub sharedEnd : Laid → Laid → ℕ
-sharedEnd a b = earlier (end a) (end b)
 
 -- they share a position
 unfoldable pub share : Laid → Laid → Bool
@@ -62,9 +56,9 @@ share a b = holds a (firstShared a b) && holds b (firstShared a b)
 unfoldable pub sameAt : Laid → Laid → ℕ → Bool
 sameAt a b n = eqb (digitAt a n) (digitAt b n)
 
--- and so at every position that both hold
+-- and so at every position of the first that the second holds as well
 unfoldable pub agree : Laid → Laid → Bool
-agree a b = allBelow (sharedEnd a b - firstShared a b) (λ i. sameAt a b (firstShared a b + i))
+agree a b = allBelow (length (a .digits)) (λ i. not (holds b (a .from + i)) || sameAt a b (a .from + i))
 
 -- ---- the part
 

@@ -72,13 +72,6 @@ pub fn later(m: u64, n: u64) -> u64
     if m < n { n } else { m }
 }
 
-// The earlier of two positions.
-pub fn earlier(m: u64, n: u64) -> u64
-    ensures { λ r. ⌜ r ≡ definition.earlier m n ⌝ }
-{
-    if m < n { m } else { n }
-}
-
 // Whether two strings are in form.
 pub fn both_in_form(first: &[u8], p: u64, second: &[u8], q: u64) -> bool
     ensures { λ r. ⌜ r ≡ (inForm (laid (now (first .entry)) p) && inForm (laid (now (second .entry)) q)) ⌝ }
@@ -102,17 +95,19 @@ pub fn share(first: &[u8], p: u64, second: &[u8], q: u64) -> bool
     }
 }
 
-// Whether two strings have the same digit at every position that both hold.
+// Whether two strings have the same digit at every position of the first that the second holds as well.
 pub fn agree(first: &[u8], p: u64, second: &[u8], q: u64) -> bool
-    requires { ⌜ (end (laid (now first) p) < 2 ^ 64) × (end (laid (now second) q) < 2 ^ 64) ⌝ }
+    requires { ⌜ end (laid (now first) p) < 2 ^ 64 ⌝ }
     ensures { λ r. ⌜ r ≡ definition.agree (laid (now (first .entry)) p) (laid (now (second .entry)) q) ⌝ }
 {
-    let stop = earlier(p + first.len() as u64, q + second.len() as u64);
-    let mut n = later(p, q);
+    let stop = p + first.len() as u64;
+    let mut n = p;
     while n < stop {
         let next = n + 1;
-        if digit_at(first, p, n) != digit_at(second, q, n) {
-            return false;
+        if holds(second, q, n) {
+            if digit_at(first, p, n) != digit_at(second, q, n) {
+                return false;
+            }
         }
         n = next;
     }

@@ -48,7 +48,7 @@ use Rattle.look.specs.Look.{unmarkedOf, unmarkedIn, lookTests, lookCall}
 use Rattle.closing.specs.Closing.{settledAt, digitsAt, closeBy, closeCall}
 use Rattle.closing.proofs.Closing.{nine-alone}
 use Rattle.closing.proofs.Encoded.{good-full, answer-by}
-use Rattle.overlap.specs.Strings.{holds, digitAt, allDigits, inForm, later, earlier, share, sameAt, agree, further, skipped}
+use Rattle.overlap.specs.Strings.{holds, digitAt, allDigits, inForm, later, share, sameAt, agree, further, skipped}
 use Rattle.overlap.specs.Calls.{overlapTests, overlapCall, Place, partPlace}
 use Rattle.overlap.specs.Overlaps.{string}
 use Rattle.settlement.specs.Settlement.{Filled, ClosesWith, rowSums, allSums}
@@ -443,7 +443,7 @@ fills-first same =
 -- ---- parts: 243F from position 1 on, and 3E6A from position 3 on, which differ at position 4
 
 handed-at-twelve : HandsAs handedAtTwelve → ⊥
-unfolding handedAtTwelve partPlace overlapTests overlapCall refusedBy refusal inForm allDigits isDigit share holds agree allBelow sameAt digitAt later earlier skipped further hexText hexDigit
+unfolding handedAtTwelve partPlace overlapTests overlapCall refusedBy refusal inForm allDigits isDigit share holds agree allBelow sameAt digitAt later skipped further hexText hexDigit
 handed-at-twelve same = let z : _≡_ {A = ℕ} 4 0 = ap (λ (w : Place). w .at) (same (string 4 0x243F 1) (string 4 0x3E6A 3)) in omega (arith, z)
 
 -- ---- arithmetic

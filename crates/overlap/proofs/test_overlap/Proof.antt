@@ -23,7 +23,7 @@ returns-2 c =
     (sym (made .share .ensures) ∙ not-true _ (c .if2 .taken))
 
 agree-requires : tie.Need-agree-requires
-agree-requires c κs = formed-fit _ _ (sym (c .before .before .before .both-in-form .ensures) ∙ not-false _ (c .before .if1 .left))
+agree-requires c κs = formed-fit _ _ (sym (c .before .before .before .both-in-form .ensures) ∙ not-false _ (c .before .if1 .left)) .0
 
 returns-3 : tie.Need-returns-3
 returns-3 c =
