@@ -107,13 +107,6 @@ module _ (a b : Laid) where
       let both = neither _ _ (i .2) in
       (n, (holds-at a n (omega arith) (omega arith), both .0), eqb-false _ _ (both .1))
 
-  pub all-agree : ((n : ℕ) → Shared a b n → digitAt a n ≡ digitAt b n) → agree a b ≡ true
-  all-agree h = go (agree a b) refl
-    where
-      go : (t : Bool) → agree a b ≡ t → t ≡ true
-      go true e = refl
-      go false e = let d = some-differ e in absurd (d .2 (h (d .0) (d .1)))
-
 -- ---- a loop over the positions of the first
 
 module _ (a b : Laid) where
