@@ -14,7 +14,7 @@ use lib.ListN.{length, replicate, replicate-append-replicate, getD, set, length-
 use lib.Seq.{getD-append-add, ext-getD, getD-set-same, getD-set-other}
 use Rattle.algebra.proofs.Booleans.{below-or}
 use Rattle.run.specs.Run.{Limits}
-use Rattle.ledger.specs.Ledger.{marksAt, mark}
+use Rattle.ledger.specs.Ledger.{marksAt, markAt, mark}
 use Rattle.ledger.specs.Plain.{markByte, markBytes, markRows}
 
 abbrev pub bit : Bool → ℕ
@@ -199,11 +199,19 @@ set-append-add [] ys i a = ap (λ (n : ℕ). set ys n a) (zero-add i)
 set-append-add (x ∷ xs) ys i a =
     ap (λ (n : ℕ). set (x ∷ xs ++ ys) n a) (suc-add (length xs) i) ∙ ap (λ (l : List ℕ). x ∷ l) (set-append-add xs ys i a)
 
+-- the bytes of a ledger with the byte of a row's and block's mark changed
+abbrev pub changed : Limits → (ℕ → ℕ) → List ℕ → ℕ → ℕ → List ℕ
+changed lim g s row block = set s (markAt lim row block) (g (getD s (markAt lim row block) 0))
+
+pub changed-past : (lim : Limits) (g : ℕ → ℕ) (front back : List ℕ) (row block : ℕ) → length front ≡ marksAt lim
+    → changed lim g (front ++ back) row block ≡ front ++ set back (32 * row + block / 8) (g (getD back (32 * row + block / 8) 0))
+changed-past lim g front back row block e =
+    let q = 32 * row + block / 8 in
+    ap (λ (n : ℕ). set (front ++ back) (n + q) (g (getD (front ++ back) (n + q) 0))) (sym e)
+    ∙ ap (λ (x : ℕ). set (front ++ back) (length front + q) (g x)) (getD-append-add front back q 0)
+    ∙ set-append-add front back q (g (getD back q 0))
+
 pub mark-past : (lim : Limits) (front back : List ℕ) (row block : ℕ) → length front ≡ marksAt lim
     → mark lim (front ++ back) row block ≡ front ++ set back (32 * row + block / 8) (getD back (32 * row + block / 8) 0 + 2 ^ (block % 8))
 unfolding mark
-mark-past lim front back row block e =
-    let q = 32 * row + block / 8 in
-    ap (λ (n : ℕ). set (front ++ back) (n + q) (getD (front ++ back) (n + q) 0 + 2 ^ (block % 8))) (sym e)
-    ∙ ap (λ (x : ℕ). set (front ++ back) (length front + q) (x + 2 ^ (block % 8))) (getD-append-add front back q 0)
-    ∙ set-append-add front back q (getD back q 0 + 2 ^ (block % 8))
+mark-past lim front back row block e = changed-past lim (λ b. b + 2 ^ (block % 8)) front back row block e

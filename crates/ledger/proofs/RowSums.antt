@@ -23,11 +23,11 @@ use Rattle.run.specs.Run.{Limits}
 use Rattle.ledger.specs.Ledger.{sumAt, marksAt, rowSumIn, totalOf, totalIn, addTo, mark, enter}
 use Rattle.ledger.specs.Plain.{adding, sumRows}
 use Rattle.ledger.specs.RowSums.{zeroWide, valueAt, heldIn, withSums}
-use Rattle.ledger.proofs.MarkBytes.{mark-past}
+use Rattle.ledger.proofs.MarkBytes.{changed, changed-past}
 
 -- ---- the bytes of several rows' sums
 
-length-sum-rows : (v : ℕ → ℕ) (r n : ℕ) → length (sumRows v r n) ≡ 16 * n
+pub length-sum-rows : (v : ℕ → ℕ) (r n : ℕ) → length (sumRows v r n) ≡ 16 * n
 unfolding sumRows
 length-sum-rows v r zero = refl
 length-sum-rows v r (suc n) =
@@ -35,13 +35,13 @@ length-sum-rows v r (suc n) =
     let f = length-bytes 16 (v r) in
     length-append (bytesOf 16 (v r)) (sumRows v (suc r) n) ∙ omega (arith, e, f)
 
-rows-ext : (v w : ℕ → ℕ) (r n : ℕ) → ((i : ℕ) → r ≤ i → i < r + n → v i ≡ w i) → sumRows v r n ≡ sumRows w r n
+pub rows-ext : (v w : ℕ → ℕ) (r n : ℕ) → ((i : ℕ) → r ≤ i → i < r + n → v i ≡ w i) → sumRows v r n ≡ sumRows w r n
 unfolding sumRows
 rows-ext v w r zero h = refl
 rows-ext v w r (suc n) h =
     ap₂ (λ (x : ℕ) (l : List ℕ). bytesOf 16 x ++ l) (h r (omega arith) (omega arith)) (rows-ext v w (suc r) n (λ i l u. h i (omega arith) (omega arith)))
 
-rows-append : (v : ℕ → ℕ) (r m n : ℕ) → sumRows v r (m + n) ≡ sumRows v r m ++ sumRows v (r + m) n
+pub rows-append : (v : ℕ → ℕ) (r m n : ℕ) → sumRows v r (m + n) ≡ sumRows v r m ++ sumRows v (r + m) n
 unfolding sumRows
 rows-append v r zero n = ap₂ (sumRows v) (sym (add-zero r)) (zero-add n)
 rows-append v r (suc m) n =
@@ -165,28 +165,33 @@ module _ (lim : Limits) (s : List ℕ) (size : marksAt lim ≤ length s) where
   length-front : (v : ℕ → ℕ) → length (take 16 s ++ sumRows v 0 (lim .rows)) ≡ marksAt lim
   length-front v = length-before (take 16 s) [] front-length v (lim .rows)
 
-  -- a mark set past the sums
-  mark-with : (v : ℕ → ℕ) (row block : ℕ) → mark lim (withSums lim s v) row block ≡ withSums lim (mark lim s row block) v
-  unfolding mark withSums
-  mark-with v row block =
+  -- the byte of a mark changed past the sums
+  changed-with : (g : ℕ → ℕ) (v : ℕ → ℕ) (row block : ℕ) → changed lim g (withSums lim s v) row block ≡ withSums lim (changed lim g s row block) v
+  unfolding withSums
+  changed-with g v row block =
       let q = 32 * row + block / 8 in
-      let b = 2 ^ (block % 8) in
-      let a = getD s (marksAt lim + q) 0 + b in
-      mark-past lim (take 16 s ++ sumRows v 0 (lim .rows)) (drop (marksAt lim) s) row block (length-front v)
-      ∙ ap (λ (x : ℕ). take 16 s ++ sumRows v 0 (lim .rows) ++ set (drop (marksAt lim) s) q (x + b)) (getD-drop (marksAt lim) s q 0)
+      let a = g (getD s (marksAt lim + q) 0) in
+      changed-past lim g (take 16 s ++ sumRows v 0 (lim .rows)) (drop (marksAt lim) s) row block (length-front v)
+      ∙ ap (λ (x : ℕ). take 16 s ++ sumRows v 0 (lim .rows) ++ set (drop (marksAt lim) s) q (g x)) (getD-drop (marksAt lim) s q 0)
       ∙ sym (ap₂ (λ (x y : List ℕ). x ++ sumRows v 0 (lim .rows) ++ y) (take-set-le 16 s (marksAt lim + q) a (omega arith)) (drop-set-add (marksAt lim) s q a))
 
-  -- a ticket entered among other sums than the ledger's own
+  -- x added to the sum of a row, and the byte of a mark changed, among other sums than the ledger's own
+  pub added-with : (g : ℕ → ℕ) (v : ℕ → ℕ) (row block x : ℕ) → row < lim .rows → v row < modulus
+      → changed lim g (addTo (withSums lim s v) row x) row block ≡ withSums lim (changed lim g s row block) (adding row x v)
+  unfolding withSums
+  added-with g v row block x h fits =
+      ap (λ (l : List ℕ). changed lim g l row block) (add-sums (take 16 s) (drop (marksAt lim) s) front-length v (lim .rows) row x h fits)
+      ∙ changed-with g (adding row x v) row block
+
+  -- a ticket entered
   pub enter-with : (v : ℕ → ℕ) (row block x : ℕ) → row < lim .rows → v row < modulus
       → enter lim (withSums lim s v) row block x ≡ withSums lim (mark lim s row block) (adding row x v)
-  unfolding enter withSums
-  enter-with v row block x h fits =
-      ap (λ (l : List ℕ). mark lim l row block) (add-sums (take 16 s) (drop (marksAt lim) s) front-length v (lim .rows) row x h fits)
-      ∙ mark-with (adding row x v) row block
+  unfolding enter mark
+  enter-with v row block x h fits = added-with (λ b. b + 2 ^ (block % 8)) v row block x h fits
 
 -- ---- the array that holds the sums
 
-value-set : (a : List Wide) (row : ℕ) (y : Wide) (i : ℕ) → row < length a → valueAt (set a row y) i ≡ cond (eqb row i) (joined (y .hi) (y .lo)) (valueAt a i)
+pub value-set : (a : List Wide) (row : ℕ) (y : Wide) (i : ℕ) → row < length a → valueAt (set a row y) i ≡ cond (eqb row i) (joined (y .hi) (y .lo)) (valueAt a i)
 unfolding valueAt
 value-set a row y i h = go (eqb row i) refl
   where
@@ -290,10 +295,18 @@ held-fits rows s bytes row = go (ltb row rows)
     go true = field-lt s (sumAt row) 16 bytes
     go false = pow-pos 128
 
+-- the byte of the mark changed in any way
+pub changed-sums : (lim : Limits) (g : ℕ → ℕ) (s t u : List ℕ) (row block x : ℕ) (v w : ℕ → ℕ) → marksAt lim ≤ length s → AllBytes s → row < lim .rows
+    → ((i : ℕ) → v i ≡ heldIn (lim .rows) s i) → ((i : ℕ) → w i ≡ adding row x v i) → t ≡ changed lim g s row block → u ≡ withSums lim t w
+    → u ≡ changed lim g (addTo s row x) row block
+changed-sums lim g s t u row block x v w size bytes h read added et eu =
+    eu ∙ ap₂ (withSums lim) et (λ i r. added r i)
+    ∙ sym (added-with lim s size g v row block x h (subst (λ (n : ℕ). n < modulus) (sym (read row)) (held-fits (lim .rows) s bytes row)))
+    ∙ ap (λ (l : List ℕ). changed lim g (addTo l row x) row block) (with-own lim s size bytes v read)
+
 pub entered : (lim : Limits) (s t u : List ℕ) (row block x : ℕ) (v w : ℕ → ℕ) → marksAt lim ≤ length s → AllBytes s → row < lim .rows
     → ((i : ℕ) → v i ≡ heldIn (lim .rows) s i) → ((i : ℕ) → w i ≡ adding row x v i) → t ≡ mark lim s row block → u ≡ withSums lim t w
     → u ≡ enter lim s row block x
+unfolding enter mark
 entered lim s t u row block x v w size bytes h read added et eu =
-    eu ∙ ap₂ (withSums lim) et (λ i r. added r i)
-    ∙ sym (enter-with lim s size v row block x h (subst (λ (n : ℕ). n < modulus) (sym (read row)) (held-fits (lim .rows) s bytes row)))
-    ∙ ap (λ (l : List ℕ). enter lim l row block x) (with-own lim s size bytes v read)
+    changed-sums lim (λ b. b + 2 ^ (block % 8)) s t u row block x v w size bytes h read added et eu

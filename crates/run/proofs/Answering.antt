@@ -12,7 +12,7 @@ use lib.IntN.{pos, negsuc, negℤ}
 use Rattle.run.specs.Refusal.{Test, lastNumber, _⇐_, refusal, answer}
 use Rattle.run.specs.Answers.{numberOf, answerOf}
 use Rattle.run.specs.declared.Refusal.{Refusal}
-use Rattle.run.specs.declared.Refusal.the-variants.{WrongSize, OutOfRange, Malformed, NoTicket, OutOfOrder, OtherRun, Marked, Unmarked, Unsettled, BadString, Apart, Different}
+use Rattle.run.specs.declared.Refusal.the-variants.{WrongSize, OutOfRange, Malformed, NoTicket, OutOfOrder, OtherRun, Marked, Unmarked, Unsettled, BadString, Apart, Different, Unposted}
 use Rattle.run.specs.declared.Answer.{Answer}
 use Rattle.run.specs.declared.Answer.the-variants.{Finished, Refused}
 
@@ -78,6 +78,7 @@ in-table Unsettled = (lit< tt, lit≤ tt)
 in-table BadString = (lit< tt, lit≤ tt)
 in-table Apart = (lit< tt, lit≤ tt)
 in-table Different = (lit< tt, lit≤ tt)
+in-table Unposted = (lit< tt, lit≤ tt)
 
 below-zero : (n value : ℕ) → 0 < n → negℤ (pos n) ≡ pos value → ⊥
 below-zero zero value h e = omega arith

@@ -2,7 +2,7 @@
 use Prim.Native.Nat.{ℕ}
 use lib.IntN.{ℤ, pos, negℤ}
 use Rattle.run.specs.declared.Refusal.{Refusal}
-use Rattle.run.specs.declared.Refusal.the-variants.{WrongSize, OutOfRange, Malformed, NoTicket, OutOfOrder, OtherRun, Marked, Unmarked, Unsettled, BadString, Apart, Different}
+use Rattle.run.specs.declared.Refusal.the-variants.{WrongSize, OutOfRange, Malformed, NoTicket, OutOfOrder, OtherRun, Marked, Unmarked, Unsettled, BadString, Apart, Different, Unposted}
 use Rattle.run.specs.declared.Answer.{Answer}
 use Rattle.run.specs.declared.Answer.the-variants.{Finished, Refused}
 
@@ -19,6 +19,7 @@ numberOf Unsettled = 9
 numberOf BadString = 10
 numberOf Apart = 11
 numberOf Different = 12
+numberOf Unposted = 13
 
 abbrev pub answerOf : Answer → ℤ
 answerOf (Finished value) = pos value

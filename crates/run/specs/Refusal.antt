@@ -8,7 +8,7 @@ use lib.IntN.{ℤ, pos, negsuc}
 
 -- the last number of the table
 abbrev pub lastNumber : ℕ
-lastNumber = 12
+lastNumber = 13
 
 -- A condition with its number.
 pub record Test : Type 0 where

@@ -23,6 +23,7 @@ pub enum Refusal {
     BadString,
     Apart,
     Different,
+    Unposted,
 }
 
 // What a call answers: its value (0, or the length, e or d), or a refusal.
@@ -48,6 +49,7 @@ pub fn number_of(r: Refusal) -> u64
         Refusal::BadString => 10,
         Refusal::Apart => 11,
         Refusal::Different => 12,
+        Refusal::Unposted => 13,
     }
 }
 

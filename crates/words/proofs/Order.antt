@@ -6,8 +6,8 @@ use mathlib.Core.Bool.{Bool, true, false}
 use Prim.Native.Nat.{ℕ, _+_, _*_, _-_, _%_, _^_, _<_, _≤_}
 use native.Mathlib.Nat.{le-of-suc-le-suc, lt-of-not-le, mod-eq-of-lt, mod-lt}
 use native.Mathlib.Omega.{arith}
-use borrow.Author.Tests.{ltb-true, ltb-false, lt-ltb, le-ltb}
-use lib.Dec.{ltb}
+use borrow.Author.Tests.{ltb-true, ltb-false, lt-ltb, le-ltb, eqb-true, eqb-false, eq-eqb, ne-eqb}
+use lib.Dec.{ltb, eqb}
 use Rattle.algebra.proofs.Cong.{Mod, is-%, less, of-eq, trans, wrapped}
 use Rattle.words.specs.Words.{joined}
 
@@ -27,6 +27,18 @@ less-low h k l m e = same-test l m (h * 2 ^ 64 + l) (k * 2 ^ 64 + m) (λ a. omeg
 pub less-high : (h k l m : ℕ) → (h ≡ k → ⊥) → l < 2 ^ 64 → m < 2 ^ 64 → ltb h k ≡ ltb (joined h l) (joined k m)
 unfolding joined
 less-high h k l m n a b = same-test h k (h * 2 ^ 64 + l) (k * 2 ^ 64 + m) (λ c. omega arith) (λ c. omega arith)
+
+pub equal-low : (h k l m : ℕ) → h ≡ k → eqb l m ≡ eqb (joined h l) (joined k m)
+unfolding joined
+equal-low h k l m e = go (eqb l m) refl
+  where
+    go : (t : Bool) → eqb l m ≡ t → t ≡ eqb (h * 2 ^ 64 + l) (k * 2 ^ 64 + m)
+    go true q = let s = eqb-true l m q in sym (eq-eqb (h * 2 ^ 64 + l) (k * 2 ^ 64 + m) (omega (arith, s)))
+    go false q = let d = eqb-false l m q in sym (ne-eqb _ _ (λ s. d (let w : h * 2 ^ 64 + l ≡ k * 2 ^ 64 + m = s in omega (arith, w))))
+
+pub equal-high : (h k l m : ℕ) → (h ≡ k → ⊥) → l < 2 ^ 64 → m < 2 ^ 64 → false ≡ eqb (joined h l) (joined k m)
+unfolding joined
+equal-high h k l m n a b = sym (ne-eqb _ _ (λ s. n (let w : h * 2 ^ 64 + l ≡ k * 2 ^ 64 + m = s in omega (arith, w))))
 
 -- ---- sums and differences modulo M
 

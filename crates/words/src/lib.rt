@@ -2,7 +2,7 @@
 ghost use mathlib.Core.Path.{_≡_};
 ghost use mathlib.Core.List.{_++_};
 ghost use Prim.Native.Nat.{_+_, _*_, _/_, _%_, _^_, _≤_};
-ghost use lib.Dec.{ltb};
+ghost use lib.Dec.{ltb, eqb};
 ghost use lib.ListN.{length, take, drop, replicate};
 ghost use Rattle.words.specs.Words.{joined};
 ghost use Rattle.words.specs.Bytes.{bytesOf, field};
@@ -96,6 +96,17 @@ pub fn is_less(a: Wide, b: Wide) -> bool
         a.lo < b.lo
     } else {
         a.hi < b.hi
+    }
+}
+
+// Whether a and b are equal.
+pub fn is_equal(a: Wide, b: Wide) -> bool
+    ensures { λ r. ⌜ r ≡ eqb (joined (a .hi) (a .lo)) (joined (b .hi) (b .lo)) ⌝ }
+{
+    if a.hi == b.hi {
+        a.lo == b.lo
+    } else {
+        false
     }
 }
 
