@@ -54,7 +54,7 @@ module _ (lim : Limits) (s : List ℕ) (bytes : AllBytes s) (sized : length s �
       all-at 256 _ (all-at (lim .rows) _ (and-right (inRange lim (posIn s) (blocksIn s) && eqb (field s 10 6) 0) _ ordered) row h) block l
 
   -- no bit is set at C or above, so the marks of a row are its bits
-  mark-bit : (row block : ℕ) → row < lim .rows → block < 256 → markIn lim s row block ≡ bitIn lim s row block
+  pub mark-bit : (row block : ℕ) → row < lim .rows → block < 256 → markIn lim s row block ≡ bitIn lim s row block
   unfolding markIn isTicket
   mark-bit row block h l = rw (lt-ltb row (lim .rows) h) (go (ltb block (blocksIn s)) (bitIn lim s row block) (clear row block h l))
     where

@@ -1,13 +1,14 @@
 -- The bytes of a plain ledger: what the refusal table sees of them is what it sees of the plain ledger, and a ticket entered makes
 -- of them the bytes of the plain ledger with the ticket put in.
 -- Assumes nothing.
-use mathlib.Core.Path.{_≡_, refl, sym, ap, ap₂, _∙_}
+use mathlib.Core.Path.{_≡_, refl, sym, ap, ap₂, _∙_, subst}
 use mathlib.Core.Bool.{Bool, true, false, not, _&&_, _||_}
 use mathlib.Core.List.{List, [], _++_, append-assoc}
 use Prim.Native.Nat.{ℕ, _+_, _*_, _-_, _/_, _%_, _^_, _<_}
 use native.Mathlib.Omega.{arith}
-use borrow.Author.Tests.{ltb-false, eqb-true, eq-eqb}
+use borrow.Author.Tests.{ltb-false, eqb-true, eqb-false, eq-eqb}
 use lib.Dec.{ltb, eqb}
+use lib.Pow.{pow-pos}
 use lib.ListN.{length, getD, replicate, replicate-append-replicate, length-append}
 use lib.Seq.{getD-append-add}
 use Rattle.algebra.proofs.Sums.{sum-ext}
@@ -20,7 +21,7 @@ use Rattle.run.proofs.Range.{range-of, ticket-row, ticket-block}
 use Rattle.ledger.specs.Ledger.{ledgerSize, marksAt, head, posIn, blocksIn, rowSumIn, totalOf, totalIn, bitIn, markIn, inOrder, viewOf, mark, enter, fresh}
 use Rattle.ledger.specs.Plain.{Plain, plainView, encode, admit, including, adding, sumRows, markRows, markByte, opened}
 use Rattle.ledger.proofs.MarkBytes.{bit, mark-at, mark-set, mark-past, byte-bit, length-mark-rows, rows-none}
-use Rattle.ledger.proofs.RowSums.{length-before, sum-read, add-sums, rows-zero}
+use Rattle.ledger.proofs.RowSums.{length-before, sum-read, adding-fits, add-sums, rows-zero}
 
 bit-eqb : (b : Bool) → eqb (bit b) 1 ≡ b
 bit-eqb true = refl
@@ -59,7 +60,7 @@ module _ (lim : Limits) (s : Plain) (g : Good lim s) where
   unfolding blocksIn field encode bytesOf
   blocks-encode = let h = range-of lim (s .p) (s .C) (g .range) in value-bytes 2 (s .C) (omega arith)
 
-  head-length : length (head (s .p) (s .C)) ≡ 16
+  pub head-length : length (head (s .p) (s .C)) ≡ 16
   unfolding bytesOf
   head-length = refl
 
@@ -178,3 +179,29 @@ fresh-encode lim p C =
     ap (λ (n : ℕ). replicate {A = ℕ} n 0) (sym e) ∙ sym (replicate-append-replicate (16 * lim .rows) (32 * lim .rows) 0) in
     ap (λ (l : List ℕ). head p C ++ l) (z ∙ sym (ap₂ _++_ (rows-zero 0 (lim .rows)) (rows-none 0 (lim .rows))))
     ∙ sym (append-assoc (head p C) (sumRows (λ row. 0) 0 (lim .rows)) (markRows (λ row block. false) 0 (lim .rows)))
+
+-- ---- the plain ledger as opened
+
+pub good-opened : (lim : Limits) (p C : ℕ) → lim .last < 2 ^ 64 → inRange lim p C ≡ true → Good lim (opened p C)
+unfolding opened
+good-opened lim p C h e = record { fits = h; range = e; sums-in = λ row. pow-pos 128; tickets-in = λ row block f. cc }
+
+-- ---- one ticket
+
+pub good-admit : (lim : Limits) (s : Plain) (t : Entry) → Good lim s → isTicket lim (s .C) (t .row) (t .block) ≡ true → Good lim (admit s t)
+unfolding admit
+good-admit lim s t g h = record {
+  fits = g .fits;
+  range = g .range;
+  sums-in = λ row. adding-fits (t .row) (t .sum) (s .sums) row (g .sums-in row);
+  tickets-in = λ row block. go row block (eqb (t .row) row) refl (eqb (t .block) block) refl;
+}
+  where
+    go : (row block : ℕ) (a : Bool) → eqb (t .row) row ≡ a → (b : Bool) → eqb (t .block) block ≡ b
+        → including t (s .tickets) row block ≡ true → isTicket lim (s .C) row block ≡ true
+    go row block true e true f k = subst (λ (x : ℕ). isTicket lim (s .C) x block ≡ true) (eqb-true _ _ e)
+        (subst (λ (x : ℕ). isTicket lim (s .C) (t .row) x ≡ true) (eqb-true _ _ f) h)
+    go row block true e false f k =
+        g .tickets-in row block (including-else t (s .tickets) row block (λ q. eqb-false _ _ f (sym (q .1))) ∙ k)
+    go row block false e b f k =
+        g .tickets-in row block (including-else t (s .tickets) row block (λ q. eqb-false _ _ e (sym (q .0))) ∙ k)

@@ -63,34 +63,33 @@ rows-zero r (suc n) =
     let e : 16 + 16 * n ≡ 16 * suc n = omega arith in
     ap (λ (l : List ℕ). bytesOf 16 0 ++ l) (rows-zero (suc r) n) ∙ replicate-append-replicate 16 (16 * n) 0 ∙ ap (λ (k : ℕ). replicate {A = ℕ} k 0) e
 
+-- the rows before one, its sum, and the rows after it
+pub parts : (front back : List ℕ) (v : ℕ → ℕ) (R row : ℕ) → row < R
+    → front ++ sumRows v 0 R ++ back ≡ front ++ sumRows v 0 row ++ bytesOf 16 (v row) ++ (sumRows v (suc row) (R - suc row) ++ back)
+unfolding sumRows
+parts front back v R row h =
+    let m = R - suc row in
+    let e : R ≡ row + suc m = omega arith in
+    let tail = sumRows v (suc row) m in
+    ap (λ (l : List ℕ). front ++ l ++ back)
+    (ap (sumRows v 0) e ∙ rows-append v 0 row (suc m) ∙ ap (λ (k : ℕ). sumRows v 0 row ++ (bytesOf 16 (v k) ++ sumRows v (suc k) m)) (zero-add row))
+    ∙ ap (λ (l : List ℕ). l ++ back) (sym (append-assoc front (sumRows v 0 row) (bytesOf 16 (v row) ++ tail)))
+    ∙ append-assoc (front ++ sumRows v 0 row) (bytesOf 16 (v row) ++ tail) back
+    ∙ ap (λ (l : List ℕ). front ++ sumRows v 0 row ++ l) (append-assoc (bytesOf 16 (v row)) tail back)
+    ∙ sym (append-assoc (front ++ sumRows v 0 row) (bytesOf 16 (v row)) (tail ++ back))
+
 -- ---- sums between 16 bytes before them and what stands after them
 
 module _ (front back : List ℕ) (head : length front ≡ 16) (v : ℕ → ℕ) where
   pub length-before : (row : ℕ) → length (front ++ sumRows v 0 row) ≡ sumAt row
   length-before row = let e = length-sum-rows v 0 row in length-append front (sumRows v 0 row) ∙ omega (arith, e, head)
 
-  module _ (R row : ℕ) (h : row < R) where
-    -- the rows before one, its sum, and the rows after it
-    parts : front ++ sumRows v 0 R ++ back
-        ≡ front ++ sumRows v 0 row ++ bytesOf 16 (v row) ++ (sumRows v (suc row) (R - suc row) ++ back)
-    unfolding sumRows
-    parts =
-        let m = R - suc row in
-        let e : R ≡ row + suc m = omega arith in
-        let tail = sumRows v (suc row) m in
-        ap (λ (l : List ℕ). front ++ l ++ back)
-        (ap (sumRows v 0) e ∙ rows-append v 0 row (suc m) ∙ ap (λ (k : ℕ). sumRows v 0 row ++ (bytesOf 16 (v k) ++ sumRows v (suc k) m)) (zero-add row))
-        ∙ ap (λ (l : List ℕ). l ++ back) (sym (append-assoc front (sumRows v 0 row) (bytesOf 16 (v row) ++ tail)))
-        ∙ append-assoc (front ++ sumRows v 0 row) (bytesOf 16 (v row) ++ tail) back
-        ∙ ap (λ (l : List ℕ). front ++ sumRows v 0 row ++ l) (append-assoc (bytesOf 16 (v row)) tail back)
-        ∙ sym (append-assoc (front ++ sumRows v 0 row) (bytesOf 16 (v row)) (tail ++ back))
-
-    -- a sum read back
-    pub sum-read : v row < modulus → rowSumIn (front ++ sumRows v 0 R ++ back) row ≡ v row
-    unfolding rowSumIn
-    sum-read fits =
-        ap (λ (l : List ℕ). field l (sumAt row) 16) parts
-        ∙ field-written (front ++ sumRows v 0 row) (sumRows v (suc row) (R - suc row) ++ back) (sumAt row) 16 (v row) (length-before row) fits
+  -- a sum read back
+  pub sum-read : (R row : ℕ) → row < R → v row < modulus → rowSumIn (front ++ sumRows v 0 R ++ back) row ≡ v row
+  unfolding rowSumIn
+  sum-read R row h fits =
+      ap (λ (l : List ℕ). field l (sumAt row) 16) (parts front back v R row h)
+      ∙ field-written (front ++ sumRows v 0 row) (sumRows v (suc row) (R - suc row) ++ back) (sumAt row) 16 (v row) (length-before row) fits
 
 -- ---- x added to the sum of a row
 
@@ -125,30 +124,32 @@ add-sums front back head v R row x h fits =
     rows-ext w v (suc row) (R - suc row) (λ i l u. adding-else row x v i (λ q. omega (arith, q))) in
     ap (λ (y : ℕ). take (sumAt row) (front ++ sumRows v 0 R ++ back) ++ bytesOf 16 ((y + x) % modulus) ++ drop (sumAt row + 16) (front ++ sumRows v 0 R ++ back))
     (sum-read front back head v R row h fits)
-    ∙ ap (λ (l : List ℕ). take (sumAt row) l ++ bytesOf 16 ((v row + x) % modulus) ++ drop (sumAt row + 16) l) (parts front back head v R row h)
+    ∙ ap (λ (l : List ℕ). take (sumAt row) l ++ bytesOf 16 ((v row + x) % modulus) ++ drop (sumAt row + 16) l) (parts front back v R row h)
     ∙ ap₂ (λ (a b : List ℕ). a ++ bytesOf 16 ((v row + x) % modulus) ++ b)
     (ap (take (sumAt row)) (append-assoc before (bytesOf 16 (v row)) after) ∙ take-at before (bytesOf 16 (v row) ++ after) (sumAt row) n)
     (drop-at (before ++ bytesOf 16 (v row)) after (sumAt row + 16) m)
-    ∙ sym (parts front back head w R row h
+    ∙ sym (parts front back w R row h
     ∙ ap (λ (y : ℕ). front ++ sumRows w 0 row ++ bytesOf 16 y ++ (sumRows w (suc row) (R - suc row) ++ back)) (adding-here row x v)
     ∙ ap₂ (λ (a b : List ℕ). front ++ a ++ bytesOf 16 ((v row + x) % modulus) ++ (b ++ back)) low high)
 
 -- ---- the sums of a ledger, written over its own
 
--- sums written again as they were read
-rows-again : (s : List ℕ) → AllBytes s → (r n : ℕ) → sumAt (r + n) ≤ length s → sumRows (rowSumIn s) r n ≡ take (16 * n) (drop (sumAt r) s)
-unfolding sumRows rowSumIn
-rows-again s bytes r zero h = refl
-rows-again s bytes r (suc n) h =
-    let e : sumAt (suc r) ≡ sumAt r + 16 = omega arith in
+-- sums written again as they were read, from byte `from` on
+pub rows-again : (s : List ℕ) → AllBytes s → (from r n : ℕ) → from + 16 * (r + n) ≤ length s
+    → sumRows (λ row. field s (from + 16 * row) 16) r n ≡ take (16 * n) (drop (from + 16 * r) s)
+unfolding sumRows
+rows-again s bytes from r zero h = refl
+rows-again s bytes from r (suc n) h =
+    let e : from + 16 * suc r ≡ from + 16 * r + 16 = omega arith in
     let f : 16 + 16 * n ≡ 16 * suc n = omega arith in
-    ap₂ _++_ (field-again s (sumAt r) 16 bytes (omega arith))
-    (rows-again s bytes (suc r) n (omega arith) ∙ ap (λ (k : ℕ). take (16 * n) (drop k s)) e)
-    ∙ part-join s (sumAt r) 16 (16 * n) ∙ ap (λ (k : ℕ). take k (drop (sumAt r) s)) f
+    ap₂ _++_ (field-again s (from + 16 * r) 16 bytes (omega arith))
+    (rows-again s bytes from (suc r) n (omega arith) ∙ ap (λ (k : ℕ). take (16 * n) (drop k s)) e)
+    ∙ part-join s (from + 16 * r) 16 (16 * n) ∙ ap (λ (k : ℕ). take k (drop (from + 16 * r) s)) f
 
 pub sums-again : (s : List ℕ) → AllBytes s → (R : ℕ) → sumAt R ≤ length s → take 16 s ++ sumRows (rowSumIn s) 0 R ≡ take (sumAt R) s
+unfolding rowSumIn
 sums-again s bytes R h =
-    ap (λ (l : List ℕ). take 16 s ++ l) (rows-again s bytes 0 R (omega arith)) ∙ part-join s 0 16 (16 * R)
+    ap (λ (l : List ℕ). take 16 s ++ l) (rows-again s bytes 16 0 R (omega arith)) ∙ part-join s 0 16 (16 * R)
 
 module _ (lim : Limits) (s : List ℕ) (size : marksAt lim ≤ length s) where
   pub with-own : AllBytes s → (v : ℕ → ℕ) → ((row : ℕ) → v row ≡ heldIn (lim .rows) s row) → withSums lim s v ≡ s

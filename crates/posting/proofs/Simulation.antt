@@ -6,9 +6,8 @@ use mathlib.Core.Bool.{Bool, true, false, cond, not}
 use mathlib.Core.List.{List, [], _∷_, foldl}
 use Prim.Native.Nat.{ℕ, _^_, _<_, _≤_}
 use native.Mathlib.Omega.{arith}
-use borrow.Author.Tests.{ltb-true, eqb-true, eqb-false, lt-ltb, not-true}
+use borrow.Author.Tests.{ltb-true, eqb-true, lt-ltb, not-true}
 use lib.Dec.{ltb, eqb}
-use lib.Pow.{pow-pos}
 use Rattle.algebra.specs.Machine.{leaves, answers}
 use Rattle.algebra.proofs.Booleans.{and-left, and-right, and-both}
 use Rattle.algebra.proofs.Machines.{agree}
@@ -21,37 +20,10 @@ use Rattle.ledger.specs.Ledger.{View, viewOf, fresh}
 use Rattle.ledger.specs.Plain.{Plain, plainView, encode, admit, including, opened}
 use Rattle.ledger.specs.Calls.{postCall}
 use Rattle.ledger.proofs.Posting.{post-taken}
-use Rattle.ledger.proofs.RowSums.{adding-fits}
-use Rattle.ledger.proofs.Image.{Good, including-else, view-encode, enter-encode, fresh-encode}
+use Rattle.ledger.proofs.Image.{Good, including-else, view-encode, enter-encode, fresh-encode, good-opened, good-admit}
 use Rattle.posting.specs.Calls.{enterEntry, sheetPostCall}
 use Rattle.posting.specs.Posts.{Post, ticket, sheet, postRefusal, postEntries, postBytes, postAnswer, plainAnswer, plainPost, onBytes, onPlain, ledgerAfter, answersTo, plainAfter, plainAnswersTo}
 use Rattle.posting.proofs.Testing.{every-and, sheet-taken}
-
--- ---- the plain ledger as opened
-
-pub good-opened : (lim : Limits) (p C : ℕ) → lim .last < 2 ^ 64 → inRange lim p C ≡ true → Good lim (opened p C)
-unfolding opened
-good-opened lim p C h e = record { fits = h; range = e; sums-in = λ row. pow-pos 128; tickets-in = λ row block f. cc }
-
--- ---- one ticket
-
-pub good-admit : (lim : Limits) (s : Plain) (t : Entry) → Good lim s → isTicket lim (s .C) (t .row) (t .block) ≡ true → Good lim (admit s t)
-unfolding admit
-good-admit lim s t g h = record {
-  fits = g .fits;
-  range = g .range;
-  sums-in = λ row. adding-fits (t .row) (t .sum) (s .sums) row (g .sums-in row);
-  tickets-in = λ row block. go row block (eqb (t .row) row) refl (eqb (t .block) block) refl;
-}
-  where
-    go : (row block : ℕ) (a : Bool) → eqb (t .row) row ≡ a → (b : Bool) → eqb (t .block) block ≡ b
-        → including t (s .tickets) row block ≡ true → isTicket lim (s .C) row block ≡ true
-    go row block true e true f k = subst (λ (x : ℕ). isTicket lim (s .C) x block ≡ true) (eqb-true _ _ e)
-        (subst (λ (x : ℕ). isTicket lim (s .C) (t .row) x ≡ true) (eqb-true _ _ f) h)
-    go row block true e false f k =
-        g .tickets-in row block (including-else t (s .tickets) row block (λ q. eqb-false _ _ f (sym (q .1))) ∙ k)
-    go row block false e b f k =
-        g .tickets-in row block (including-else t (s .tickets) row block (λ q. eqb-false _ _ e (sym (q .0))) ∙ k)
 
 -- ---- several tickets, in order
 

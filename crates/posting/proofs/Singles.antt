@@ -20,12 +20,12 @@ use Rattle.sheet.specs.Sheet.{sheetCount, sheetBlocks, sumIn, entriesFrom, entr
 use Rattle.ledger.specs.Ledger.{View, viewOf, ledgerSize}
 use Rattle.ledger.specs.Plain.{Plain, plainView, admit, encode, decode}
 use Rattle.ledger.specs.Calls.{postTests}
-use Rattle.ledger.proofs.Image.{Good, view-encode}
+use Rattle.ledger.proofs.Image.{Good, view-encode, good-admit}
 use Rattle.ledger.proofs.Decode.{encode-decode, good-decode}
 use Rattle.posting.specs.Calls.{sheetPostCall}
 use Rattle.posting.specs.Posts.{ticket, sheet, postRefusal, postEntries, postBytes, plainAnswer, plainPost, onBytes, onPlain, singles, OneByOne}
 use Rattle.posting.proofs.Testing.{sheet-taken}
-use Rattle.posting.proofs.Simulation.{Ready, good-admit, post-ready, step, posts-agree}
+use Rattle.posting.proofs.Simulation.{Ready, post-ready, step, posts-agree}
 
 -- a single post of a ticket of the run, with its p and C and a sum of 16 bytes, is refused only where the ticket is in the set
 pub not-refused : (lim : Limits) (s : Plain) (q D row block : ℕ) (x : List ℕ) → Good lim s → q ≡ s .p → D ≡ s .C → length x ≡ 16

@@ -21,10 +21,10 @@ use Rattle.ledger.specs.Ledger.{totalOf}
 use Rattle.ledger.specs.Plain.{Plain, plainView, admit, including, adding, isOf, opened}
 use Rattle.ledger.proofs.Posting.{post-taken}
 use Rattle.ledger.proofs.RowSums.{adding-here, adding-else}
-use Rattle.ledger.proofs.Image.{Good, including-here, including-else}
+use Rattle.ledger.proofs.Image.{Good, including-here, including-else, good-admit, good-opened}
 use Rattle.sheet.specs.Sheet.{entries}
 use Rattle.posting.specs.Posts.{Post, ticket, sheet, postRefusal, postEntries, plainPost, onPlain, plainAfter, occurring, occurrences, contains}
-use Rattle.posting.proofs.Simulation.{Ready, good-admit, good-opened, post-ready, step}
+use Rattle.posting.proofs.Simulation.{Ready, post-ready, step}
 use Rattle.posting.proofs.Singles.{not-refused}
 use Rattle.settlement.specs.Settlement.{Filled, rowSums, allSums, finalSums, finalTotal}
 
