@@ -1,1 +1,3 @@
 pub mod Simulation
+pub mod Undone
+pub mod Follows

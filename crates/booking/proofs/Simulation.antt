@@ -81,7 +81,7 @@ module _ (lim : Limits) (fits : lim .last < 2 ^ 64) where
   unfolding admitKept
   entered-one k o t h new = enter-encode lim (k .plain) (good-of lim fits k o) t h new
 
-  plain-of : (k : Keeping) (t : Entry) → admitKept k t .plain ≡ admit (k .plain) t
+  pub plain-of : (k : Keeping) (t : Entry) → admitKept k t .plain ≡ admit (k .plain) t
   unfolding admitKept
   plain-of k t = refl
 
@@ -129,13 +129,13 @@ module _ (lim : Limits) (fits : lim .last < 2 ^ 64) where
       go true = refl
       go false = refl
 
-  booking-bytes : (s : Pair) (a : Booking) → bookingBytes lim s a ≡ cond (eqb (bookingRefusal lim (viewWith lim (s .ledger) (s .book)) a) 0) (takenBytes s a) s
+  pub booking-bytes : (s : Pair) (a : Booking) → bookingBytes lim s a ≡ cond (eqb (bookingRefusal lim (viewWith lim (s .ledger) (s .book)) a) 0) (takenBytes s a) s
   unfolding bookingBytes bookPostCall bookSheetPostCall withdrawCall refusedBy allLeft bookingRefusal postEntries
   booking-bytes s (posting (ticket p C row block sum)) = by-number (bookingRefusal lim (viewWith lim (s .ledger) (s .book)) (posting (ticket p C row block sum))) (takenBytes s (posting (ticket p C row block sum))) s
   booking-bytes s (posting (sheet b)) = by-number (bookingRefusal lim (viewWith lim (s .ledger) (s .book)) (posting (sheet b))) (takenBytes s (posting (sheet b))) s
   booking-bytes s (withdrawal p C row block) = by-number (bookingRefusal lim (viewWith lim (s .ledger) (s .book)) (withdrawal p C row block)) (takenBytes s (withdrawal p C row block)) s
 
-  booking-answer : (s : Pair) (a : Booking) → bookingAnswer lim s a ≡ answer (bookingRefusal lim (viewWith lim (s .ledger) (s .book)) a) 0
+  pub booking-answer : (s : Pair) (a : Booking) → bookingAnswer lim s a ≡ answer (bookingRefusal lim (viewWith lim (s .ledger) (s .book)) a) 0
   unfolding bookingAnswer bookPostCall bookSheetPostCall withdrawCall refusedBy answered bookingRefusal
   booking-answer s (posting (ticket p C row block sum)) = refl
   booking-answer s (posting (sheet b)) = refl

@@ -35,17 +35,17 @@ not-refused lim s q D row block x g eq eD l h new =
     rw (eq, eD, l, g .range, h, eq-eqb (s .p) (s .p) refl, eq-eqb (s .C) (s .C) refl, new) refl
 
 -- every sum fits its 16 bytes, as the sums of a sheet do
-abbrev SumsFit : List Entry → Type 0
+abbrev pub SumsFit : List Entry → Type 0
 SumsFit [] = Unit {0}
 SumsFit (t ∷ ts) = (t .sum < modulus) × SumsFit ts
 
-sums-fit : (s : List ℕ) → AllBytes s → (n i : ℕ) → SumsFit (entriesFrom s i n)
+pub sums-fit : (s : List ℕ) → AllBytes s → (n i : ℕ) → SumsFit (entriesFrom s i n)
 unfolding entriesFrom sumIn
 sums-fit s h zero i = tt
 sums-fit s h (suc n) i = (field-lt s (16 + 4 * sheetCount s + 16 * i) 16 h, sums-fit s h n (suc i))
 
 module _ (lim : Limits) where
-  one-taken : (s : Plain) (t : Entry) → Good lim s → isTicket lim (s .C) (t .row) (t .block) ≡ true → s .tickets (t .row) (t .block) ≡ false
+  pub one-taken : (s : Plain) (t : Entry) → Good lim s → isTicket lim (s .C) (t .row) (t .block) ≡ true → s .tickets (t .row) (t .block) ≡ false
       → postRefusal lim (plainView s) (ticket (s .p) (s .C) (t .row) (t .block) (bytesOf 16 (t .sum))) ≡ 0
   one-taken s t g h new =
       not-refused lim s (s .p) (s .C) (t .row) (t .block) (bytesOf 16 (t .sum)) g refl refl (length-bytes 16 (t .sum)) h new
