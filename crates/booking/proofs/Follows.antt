@@ -2,7 +2,7 @@
 -- the bytes. Bytes that are not refuse all alike.
 -- Assumes nothing.
 use mathlib.Core.Path.{_≡_, refl, sym, ap, ap₂, _∙_, subst}
-use mathlib.Core.Bool.{Bool, true, false, not, cond, _&&_}
+use mathlib.Core.Bool.{Bool, true, false, not, cond, _&&_, _||_}
 use mathlib.Core.List.{List, [], _∷_, foldl, map, List·Memᴰ, List·Memᴰ·head, List·Memᴰ·tail, List·Memᴰ·not-nil}
 use Prim.Native.Nat.{ℕ, suc, _+_, _*_, _%_, _^_, _<_, _≤_}
 use native.Mathlib.Omega.{arith}
@@ -11,7 +11,7 @@ use lib.Dec.{eqb}
 use lib.IntN.{ℤ, pos, negℤ}
 use lib.ListN.{length, take, drop, replicate}
 use Rattle.algebra.specs.Machine.{leaves, answers}
-use Rattle.algebra.proofs.Booleans.{and-right, not-both}
+use Rattle.algebra.proofs.Booleans.{and-left, and-right, not-both}
 use Rattle.words.specs.Bytes.{bytesOf, valueOf, field, AllBytes}
 use Rattle.words.proofs.Bytes.{value-bytes, length-part}
 use Rattle.series.specs.Series.{modulus}
@@ -52,18 +52,22 @@ not-refused-out : (lim : Limits) (k : Keeping) (p C row block : ℕ) → inRange
 unfolding bookingRefusal withdrawTests plainView refusal
 not-refused-out lim k p C row block range t ep eC there = rw (range, t, eq-eqb p (k .plain .p) ep, eq-eqb C (k .plain .C) eC, there) refl
 
--- of these tests the one with number n does not apply
-abbrev Spares : ℕ → List Test → Type 0
-Spares n [] = Unit {0}
-Spares n (t ∷ ts) = (t .number ≡ n → t .applies ≡ false) × Spares n ts
+-- of these tests none with number n applies: computed where the numbers are known
+abbrev spares : ℕ → List Test → Bool
+spares n [] = true
+spares n (t ∷ ts) = (not (eqb (t .number) n) || not (t .applies)) && spares n ts
 
-spared : (n : ℕ) (ts : List Test) → Spares (suc n) ts → refusal ts ≡ suc n → ⊥
+spared : (n : ℕ) (ts : List Test) → spares (suc n) ts ≡ true → refusal ts ≡ suc n → ⊥
 unfolding refusal
 spared n [] s e = omega (arith, e)
-spared n (t ∷ ts) s e = go (t .applies) refl (spared n ts (s .1)) e
+spared n (t ∷ ts) s e =
+    go (t .applies) refl (spared n ts (and-right (not (eqb (t .number) (suc n)) || not (t .applies)) _ s)) e
   where
+    here : (not (eqb (t .number) (suc n)) || not (t .applies)) ≡ true
+    here = and-left (not (eqb (t .number) (suc n)) || not (t .applies)) _ s
+
     go : (b : Bool) → t .applies ≡ b → (refusal ts ≡ suc n → ⊥) → cond b (t .number) (refusal ts) ≡ suc n → ⊥
-    go true f later q = not-both (t .applies) f (s .0 q)
+    go true f later q = not-both true refl (sym (rw (eq-eqb (t .number) (suc n) q, f) at here))
     go false f later q = later q
 
 module _ (lim : Limits) (fits : lim .last < 2 ^ 64) where
@@ -259,23 +263,9 @@ module _ (lim : Limits) (fits : lim .last < 2 ^ 64) where
 
   not-five : (s : Plain) (a : Booking) → bookingRefusal lim (plainView s) a ≡ 5 → ⊥
   unfolding bookingRefusal postTests sheetTests withdrawTests plainView
-  not-five s (posting (ticket p C row block sum)) =
-      spared 4 (postTests lim (plainView s) p C row block sum)
-      (λ q. absurd (omega (arith, q)), λ q. absurd (omega (arith, q)), λ q. absurd (omega (arith, q)), λ q. refl, λ q. absurd (omega (arith, q)), λ q. absurd (omega (arith, q)), tt)
-  not-five s (posting (sheet b)) =
-      spared 4 (sheetTests lim (plainView s) b) (
-        λ q. absurd (omega (arith, q)),
-        λ q. absurd (omega (arith, q)),
-        λ q. absurd (omega (arith, q)),
-        λ q. absurd (omega (arith, q)),
-        λ q. refl,
-        λ q. absurd (omega (arith, q)),
-        λ q. absurd (omega (arith, q)),
-        tt,
-      )
-  not-five s (withdrawal p C row block) =
-      spared 4 (withdrawTests lim (plainView s) p C row block)
-      (λ q. absurd (omega (arith, q)), λ q. absurd (omega (arith, q)), λ q. absurd (omega (arith, q)), λ q. refl, λ q. absurd (omega (arith, q)), λ q. absurd (omega (arith, q)), tt)
+  not-five s (posting (ticket p C row block sum)) = spared 4 (postTests lim (plainView s) p C row block sum) refl
+  not-five s (posting (sheet b)) = spared 4 (sheetTests lim (plainView s) b) refl
+  not-five s (withdrawal p C row block) = spared 4 (withdrawTests lim (plainView s) p C row block) refl
 
   no-fives : (k : Keeping) (bookings : List Booking) (a : ℤ) → List·Memᴰ a (answers (onKeeping lim) k bookings) → a ≡ negℤ (pos 5) → ⊥
   unfolding answers keepAnswer
