@@ -42,12 +42,12 @@ use Rattle.booking.proofs.Simulation.{bytesOfKept, plain-of, Holds, Wit
 use Rattle.booking.proofs.Undone.{in-and-out, out-and-in, out-swap}
 
 -- one that is taken
-next-taken : (lim : Limits) (k : Keeping) (a : Booking) → bookingRefusal lim (plainView (k .plain)) a ≡ 0 → keepNext lim k a ≡ taken k a
+pub next-taken : (lim : Limits) (k : Keeping) (a : Booking) → bookingRefusal lim (plainView (k .plain)) a ≡ 0 → keepNext lim k a ≡ taken k a
 unfolding keepNext
 next-taken lim k a e = rw e refl
 
 -- a withdrawal of a ticket that is in the set is
-not-refused-out : (lim : Limits) (k : Keeping) (p C row block : ℕ) → inRange lim p C ≡ true → isTicket lim C row block ≡ true → p ≡ k .plain .p → C ≡ k .plain .C
+pub not-refused-out : (lim : Limits) (k : Keeping) (p C row block : ℕ) → inRange lim p C ≡ true → isTicket lim C row block ≡ true → p ≡ k .plain .p → C ≡ k .plain .C
     → k .plain .tickets row block ≡ true → bookingRefusal lim (plainView (k .plain)) (withdrawal p C row block) ≡ 0
 unfolding bookingRefusal withdrawTests plainView refusal
 not-refused-out lim k p C row block range t ep eC there = rw (range, t, eq-eqb p (k .plain .p) ep, eq-eqb C (k .plain .C) eC, there) refl
@@ -279,7 +279,7 @@ module _ (lim : Limits) (fits : lim .last < 2 ^ 64) where
   plain-put k [] = refl
   plain-put k (t ∷ ts) = plain-put (admitKept k t) ts ∙ ap (λ (s : Plain). foldl admit s ts) (plain-of lim fits k t)
 
-  plain-next : (k : Keeping) (a : Post) → keepNext lim k (posting a) .plain ≡ plainPost lim (k .plain) a
+  pub plain-next : (k : Keeping) (a : Post) → keepNext lim k (posting a) .plain ≡ plainPost lim (k .plain) a
   unfolding keepNext plainPost taken bookingRefusal postRefusal
   plain-next k a = go (eqb (postRefusal lim (plainView (k .plain)) a) 0)
     where

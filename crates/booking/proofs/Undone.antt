@@ -21,7 +21,7 @@ use Rattle.book.proofs.Image.{keeping-here, keeping-else, excluding-here, exclu
 use Rattle.book.proofs.Sound.{taken-out, put-back}
 
 -- a ticket is the one named, or another
-at-or-else : (row block r b : ℕ) (P : ℕ → ℕ → Type 0) → P row block → (((r ≡ row) × (b ≡ block) → ⊥) → P r b) → P r b
+pub at-or-else : (row block r b : ℕ) (P : ℕ → ℕ → Type 0) → P row block → (((r ≡ row) × (b ≡ block) → ⊥) → P r b) → P r b
 at-or-else row block r b P here else = go (eqb row r) refl (eqb block b) refl
   where
     go : (m : Bool) → eqb row r ≡ m → (n : Bool) → eqb block b ≡ n → P r b

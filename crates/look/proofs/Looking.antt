@@ -42,7 +42,7 @@ module _ (lim : Limits) (ledger s total : List ℕ) where
     unfolding lookTests sheetTests refusal
     same-number = rw (eq-eqb (length total) 16 room) refl
 
-    as-posting : AsPosting lim ledger s total
+    as-posting : AsPosting lim (sheetPostCall lim ledger s) ledger s total
     unfolding lookCall refusedBy answered allLeft sheetPostCall
     as-posting = record {
       refused = λ n h e.

@@ -14,6 +14,7 @@ use Rattle.sheet.specs.Calls.{writeCall, readCall}
 use Rattle.sheet.proofs.Many.{many-refused, many-listed}
 use Rattle.posting.specs.Calls.{sheetPostCall}
 use Rattle.posting.proofs.Singles.{sheet-as-singles}
+use Rattle.booking.specs.Calls.{bookSheetPostCall}
 use Rattle.look.specs.Look.{lookCall}
 use Rattle.calls.specs.Request.{callOf}
 use Rattle.settlement.proofs.Halves.{halves-make-whole}
@@ -25,11 +26,12 @@ three-or-four t u b c ts h =
     ⊎-elim (λ e. inl (later (later (here (3 ⇐ not b) _ (ap not e))))) (λ e. inr (later (later (later (here (4 ⇐ not c) ts (ap not e)))))) h
 
 too-many : (F : Formula) → TooMany F
-unfolding writeCall readCall sheetPostCall lookCall
+unfolding writeCall readCall sheetPostCall bookSheetPostCall lookCall
 too-many F = record {
   written = λ p C list out h. three-or-four _ _ _ _ _ (many-listed F (limitsOf F) p C list h);
   read = λ s list sums h. three-or-four _ _ _ _ _ (many-refused (limitsOf F) s h);
   posted = λ ledger s h. three-or-four _ _ _ _ _ (many-refused (limitsOf F) s h);
+  posted-by-book = λ ledger book s h. three-or-four _ _ _ _ _ (many-refused (limitsOf F) s h);
   looked-at = λ ledger s total h. three-or-four _ _ _ _ _ (many-refused (limitsOf F) s h);
 }
 

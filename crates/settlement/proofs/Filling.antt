@@ -26,7 +26,7 @@ use Rattle.sheet.specs.Sheet.{entries}
 use Rattle.posting.specs.Posts.{Post, ticket, sheet, postRefusal, postEntries, plainPost, onPlain, plainAfter, occurring, occurrences, contains}
 use Rattle.posting.proofs.Simulation.{Ready, post-ready, step}
 use Rattle.posting.proofs.Singles.{not-refused}
-use Rattle.settlement.specs.Settlement.{Filled, rowSums, allSums, finalSums, finalTotal}
+use Rattle.settlement.specs.Settlement.{Filled, rowSums, allSums, finalSums}
 
 module _ (F : Formula) (p C : ℕ) where
   -- the sums of the tickets that are in a set
@@ -90,7 +90,7 @@ module _ (F : Formula) (p C : ℕ) where
       kept-all (admit s t) ts (kept-admit s t k (r .0) (r .1) (right t (List·Memᴰ·head refl) h′)) (r .2) (λ u m. right u (List·Memᴰ·tail m))
 
   -- a post that is taken occurs
-  taken-occurs : (s : Plain) (a : Post) → postRefusal (limitsOf F) (plainView s) a ≡ 0 → occurring (limitsOf F) s a ≡ postEntries a
+  pub taken-occurs : (s : Plain) (a : Post) → postRefusal (limitsOf F) (plainView s) a ≡ 0 → occurring (limitsOf F) s a ≡ postEntries a
   unfolding occurring postRefusal plainView postEntries
   taken-occurs s (ticket q D row block x) e =
       let t = post-taken (limitsOf F) (plainView s) q D row block x e in
@@ -264,8 +264,9 @@ module _ (F : Formula) (p C : ℕ) where
       ∙ ap (λ (n : ℕ). n % modulus)
       (sum-ext _ _ 0 C (λ block i u. ap (λ (b : Bool). cond b (ticketSum F p C row block) 0) (filled-all fits e posts f row block (is-ticket (limitsOf F) C row block h (omega arith)))))
 
-  pub filled-total : F .last < 2 ^ 64 → inRange (limitsOf F) p C ≡ true → (posts : List Post) → Filled F p C posts → finalTotal F p C posts ≡ allSums F p C
+  -- sums of the rows that are those of their tickets add up to that of all tickets
+  pub total-of-rows : (sums : ℕ → ℕ) → ((row : ℕ) → row < rowCount F → sums row ≡ rowSums F p C row) → totalOf (limitsOf F) sums ≡ allSums F p C
   unfolding allSums rowSums totalOf
-  filled-total fits e posts f =
-      ap (λ (n : ℕ). n % modulus) (sum-ext (finalSums F p C posts) (rowSums F p C) 0 (rowCount F) (λ row l h. filled-rows fits e posts f row (omega arith)))
+  total-of-rows sums rows =
+      ap (λ (n : ℕ). n % modulus) (sum-ext sums (rowSums F p C) 0 (rowCount F) (λ row l h. rows row (omega arith)))
       ∙ sum-rem modulus (λ row. sum (λ block. ticketSum F p C row block) 0 C) 0 (rowCount F)

@@ -2,6 +2,8 @@ pub mod Partition
 pub mod Filling
 pub mod Filler
 pub mod Theorem
+pub mod Offers
+pub mod Books
 pub mod OneTotal
 pub mod EveryTerm
 pub mod Figures

@@ -31,7 +31,9 @@ use Rattle.sheet.proofs.Sheets.{Fitting, pos-read, blocks-read, count-read, ent
 use Rattle.ledger.specs.Ledger.{View, viewOf}
 use Rattle.posting.specs.Calls.{sheetTests, sheetPostCall}
 use Rattle.posting.proofs.Testing.{sheet-taken}
-use Rattle.settlement.specs.RoundTrip.{Fits, ReadsBack, WrittenReadsBack, Accepted, by-reading, by-posting, RightSums, AcceptedIsWritten}
+use Rattle.book.specs.Book.{viewWith}
+use Rattle.booking.specs.Calls.{bookSheetPostCall}
+use Rattle.settlement.specs.RoundTrip.{Fits, ReadsBack, WrittenReadsBack, Accepted, by-reading, by-posting, by-booking, RightSums, AcceptedIsWritten}
 
 -- ---- written, then read
 
@@ -197,9 +199,10 @@ post-passed : (lim : Limits) (v : View) (s : List ℕ) → refusal (sheetTests l
 post-passed lim v s e = let t = sheet-taken lim v s e in record { short = sheet-fits lim s (t .sheet-sized) .1; form = t .form }
 
 was-passed : (lim : Limits) (s : List ℕ) → Accepted lim s → Passed lim s
-unfolding readCall answered sheetPostCall refusedBy
+unfolding readCall answered sheetPostCall bookSheetPostCall refusedBy
 was-passed lim s (by-reading list sums e a) = read-passed lim s list sums (answering.not-refused _ _ e a .0)
 was-passed lim s (by-posting ledger a) = post-passed lim (viewOf lim ledger) s (answering.not-refused _ 0 0 a .0)
+was-passed lim s (by-booking ledger book a) = post-passed lim (viewWith lim ledger book) s (answering.not-refused _ 0 0 a .0)
 
 pub accepted-is-written : (F : Formula) → Fits F → AcceptedIsWritten F
 accepted-is-written F fits s out bytes acc right room = is-written F fits s out bytes (was-passed (limitsOf F) s acc) right room

@@ -15,6 +15,7 @@ use Rattle.settlement.proofs.Agreement.{demand2}
 use Rattle.settlement.proofs.Theorem.{demand3}
 use Rattle.settlement.proofs.Facts.{facts}
 use Rattle.settlement.proofs.Looks.{looks-hold}
+use Rattle.settlement.proofs.Books.{books-hold}
 use Rattle.settlement.proofs.Squarings.{squarings-hold, countable}
 use Rattle.settlement.proofs.OneTotal.{as-before}
 use Rattle.settlement.proofs.EveryTerm.{no-wider}
@@ -27,6 +28,7 @@ every-formula F asked = record {
   demand3 = demand3 F (asked .fits .near) (asked .positive) (asked .rest);
   facts = facts F (asked .fits .near);
   looks = looks-hold F (asked .fits .near);
+  books = books-hold F (asked .fits .near) (asked .positive) (asked .rest);
   squarings = squarings-hold F (asked .fits .near);
   as-before = as-before F (asked .fits .near);
   no-wider = no-wider F;

@@ -19,7 +19,7 @@ use Rattle.interval.specs.Exact.{MakesWhole, exactSum}
 use Rattle.interval.specs.Interval.{isCharged, LiesFrom, Positive, RestBelowUnit}
 use Rattle.interval.proofs.AnyRows.{any-rows}
 use Rattle.run.specs.Refusal.{refusal, answer}
-use Rattle.run.specs.Run.{limitsOf, inRange}
+use Rattle.run.specs.Run.{limitsOf, inRange, isTicket}
 use Rattle.run.proofs.Range.{range-of, is-ticket, position}
 use Rattle.run.specs.Call.{answered, bytesLeft, refusedBy, allLeft}
 use Rattle.ledger.specs.Ledger.{fresh, ledgerSize, totalOf}
@@ -30,8 +30,9 @@ use Rattle.posting.specs.Posts.{Post, ledgerAfter, plainAfter}
 use Rattle.posting.proofs.Simulation.{after-fresh}
 use Rattle.closing.specs.Closing.{lowOf, highOf, settledAt, digitsAt, closeBy, closeCall}
 use Rattle.closing.proofs.Encoded.{answer-encoded, bytes-encoded}
-use Rattle.settlement.specs.Settlement.{allSums, Closed, Settled, Demand3}
-use Rattle.settlement.proofs.Filling.{filled-all, filled-rows, filled-total, kept-posts, kept-opened}
+use Rattle.settlement.specs.Settlement.{Filled, rowSums, allSums, Closed, Settled, Demand3}
+use Rattle.settlement.specs.Books.{Completed}
+use Rattle.settlement.proofs.Filling.{filled-all, filled-rows, total-of-rows, kept-posts, kept-opened}
 use Rattle.settlement.proofs.Partition.{all-tickets}
 
 module _ (F : Formula) (fits : F .last < 2 ^ 64) (above : Positive F) (p C : ℕ) (range : inRange (limitsOf F) p C ≡ true)
@@ -118,30 +119,42 @@ module _ (F : Formula) (fits : F .last < 2 ^ 64) (above : Positive F) (p C : ℕ
   unfolding openCall answered allLeft refusedBy refusal answer
   opens-fresh s h = rw (h, eq-eqb (ledgerSize (limitsOf F)) (ledgerSize (limitsOf F)) refl, range) (refl, refl)
 
-  settlement : (posts : List Post) → Settled F p C posts
+  -- a plain ledger of the run with every ticket in it, whose rows have the sums of their tickets: bound and closing
+  pub completed : (s : Plain) → Good (limitsOf F) s → s .p ≡ p → s .C ≡ C → ((row : ℕ) → row < rowCount F → s .sums row ≡ rowSums F p C row)
+      → ((row block : ℕ) → isTicket (limitsOf F) C row block ≡ true → s .tickets row block ≡ true)
+      → (bytes : List ℕ) → bytes ≡ encode (limitsOf F) s → Completed F p C (s .sums) bytes
   unfolding lo hi bytes
+  completed s good run-p run-C rows full b eb =
+      let total = total-of-rows F p C (s .sums) rows in
+      record {
+        rows = rows;
+        total = total;
+        near = subst (λ (t : ℕ). (D L : ℕ) → 0 < D → termCount F p ≤ L → MakesWhole F p L D
+            → LiesFrom D (lowOf isCharged F p t) (highOf isCharged F p t) (exactSum F p D L)) (sym total) all-near;
+        closing = λ out room.
+            subst (λ (t : ℕ). Closed F p (lowOf isCharged F p t) (highOf isCharged F p t) b out) (sym total)
+            (subst (λ (l : List ℕ). Closed F p lo hi l out) (sym eb)
+            (closed s good run-p total
+            (λ row block h l. full row block (is-ticket (limitsOf F) C row block h (subst (λ (n : ℕ). block < n) run-C l))) out room));
+      }
+
+  settlement : (posts : List Post) → Settled F p C posts
   settlement posts =
       let lim = limitsOf F in
       let s = plainAfter lim p C posts in
       let after = after-fresh lim p C fits range posts in
-      let final = after .1 .0 in
+      let whole : Filled F p C posts → Completed F p C (s .sums) (ledgerAfter lim p C posts) =
+      (λ f.
+      let k = kept-posts F p C (opened p C) posts (kept-opened F p C fits range) (f .right) in
+      completed s (after .1 .1) (k .run-p) (k .run-C) (filled-rows F p C fits range posts f) (filled-all F p C fits range posts f) (ledgerAfter lim p C posts) (after .1 .0)) in
       record {
         opens = λ s h. opens-fresh s h;
         answers = after .0;
-        ledger = final;
-        rows = filled-rows F p C fits range posts;
-        total = filled-total F p C fits range posts;
-        near = λ f. subst (λ (t : ℕ). (D L : ℕ) → 0 < D → termCount F p ≤ L → MakesWhole F p L D
-            → LiesFrom D (lowOf isCharged F p t) (highOf isCharged F p t) (exactSum F p D L))
-            (sym (filled-total F p C fits range posts f)) all-near;
-        closing = λ f out room.
-            let k = kept-posts F p C (opened p C) posts (kept-opened F p C fits range) (f .right) in
-            subst (λ (t : ℕ). Closed F p (lowOf isCharged F p t) (highOf isCharged F p t) (ledgerAfter lim p C posts) out)
-            (sym (filled-total F p C fits range posts f))
-            (subst (λ (l : List ℕ). Closed F p lo hi l out) (sym final)
-            (closed s (after .1 .1) (k .run-p) (filled-total F p C fits range posts f)
-            (λ row block h l. filled-all F p C fits range posts f row block (is-ticket lim C row block h (subst (λ (n : ℕ). block < n) (k .run-C) l)))
-            out room));
+        ledger = after .1 .0;
+        rows = λ f. whole f .rows;
+        total = λ f. whole f .total;
+        near = λ f. whole f .near;
+        closing = λ f. whole f .closing;
       }
 
 -- Demand 3

@@ -12,6 +12,7 @@ use Rattle.sheet.specs.Sheet.{sheetBlocks, sheetCount}
 use Rattle.sheet.specs.Calls.{writeCall, readCall}
 use Rattle.posting.specs.Calls.{sheetPostCall}
 use Rattle.posting.specs.Posts.{OneByOne}
+use Rattle.booking.specs.Calls.{bookSheetPostCall}
 use Rattle.look.specs.Look.{lookCall}
 use Rattle.calls.specs.Request.{Request, callOf}
 use Rattle.settlement.specs.Halves.{HalvesMakeWhole}
@@ -27,6 +28,8 @@ pub record TooMany (F : Formula) : Type 0 where
   pub read : (s list sums : List ℕ) → rowCount F * sheetBlocks s < sheetCount s → ThreeOrFour (readCall (limitsOf F) s list sums .tests)
   pub posted : (ledger s : List ℕ) → rowCount F * sheetBlocks s < sheetCount s
       → ThreeOrFour (sheetPostCall (limitsOf F) ledger s .tests)
+  pub posted-by-book : (ledger book s : List ℕ) → rowCount F * sheetBlocks s < sheetCount s
+      → ThreeOrFour (bookSheetPostCall (limitsOf F) ledger book s .tests)
   pub looked-at : (ledger s total : List ℕ) → rowCount F * sheetBlocks s < sheetCount s
       → ThreeOrFour (lookCall (limitsOf F) ledger s total .tests)
 

@@ -7,6 +7,7 @@ pub mod RoundTrip
 pub mod Agreement
 pub mod Halves
 pub mod Looks
+pub mod Books
 pub mod Squarings
 pub mod Facts
 pub mod Runs

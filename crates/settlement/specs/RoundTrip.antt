@@ -12,16 +12,18 @@ use Rattle.run.specs.Call.{answered, bytesLeft}
 use Rattle.sheet.specs.Sheet.{sheetLength, sheetPos, sheetBlocks, entries, bodiesOf, listOf, listed}
 use Rattle.sheet.specs.Calls.{over, writeCall, readCall}
 use Rattle.posting.specs.Calls.{sheetPostCall}
+use Rattle.booking.specs.Calls.{bookSheetPostCall}
 
 -- rows fit a byte, and positions 8 bytes
 pub record Fits (F : Formula) : Type 0 where
   pub few : rowCount F < 256
   pub near : F .last < 2 ^ 64
 
--- A sheet is accepted where a call takes it: the reader with some outputs, or a post on some ledger.
+-- A sheet is accepted where a call takes it: the reader with some outputs, or a post on some ledger, without a book or by some book.
 pub data Accepted (lim : Limits) (s : List ℕ) : Type 0 where
   by-reading : (list sums : List ℕ) (e : ℕ) → answered (readCall lim s list sums) ≡ pos e → Accepted lim s
   by-posting : (ledger : List ℕ) → answered (sheetPostCall lim ledger s) ≡ pos 0 → Accepted lim s
+  by-booking : (ledger book : List ℕ) → answered (bookSheetPostCall lim ledger book s) ≡ pos 0 → Accepted lim s
 
 -- each sum is its ticket's
 unfoldable pub RightSums : Formula → List ℕ → Type 0

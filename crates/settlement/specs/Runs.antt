@@ -1,5 +1,5 @@
 -- All that is promised of the runs of a formula, in one statement for every formula that meets what is asked of it; that Bellard's runs
--- and check runs are two instances of it; and what is promised of digits, which are of no formula. Documents 01 and 02, slips 4, 5, 7 and 8.
+-- and check runs are two instances of it; and what is promised of digits, which are of no formula. Documents 01 and 02, slips 4, 5, 7, 8 and 9.
 use mathlib.Core.List.{List}
 use Prim.Native.Nat.{ℕ, _<_}
 use Rattle.series.specs.Series.{Formula, termCount}
@@ -17,6 +17,7 @@ use Rattle.settlement.specs.OneTotal.{AsBefore}
 use Rattle.settlement.specs.EveryTerm.{NoWider}
 use Rattle.settlement.specs.Facts.{Facts}
 use Rattle.settlement.specs.Looks.{Looks}
+use Rattle.settlement.specs.Books.{Books}
 use Rattle.settlement.specs.Squarings.{Countable, Squarings}
 use Rattle.settlement.specs.RoundTrip.{Fits}
 
@@ -28,7 +29,7 @@ pub record Asked (F : Formula) : Type 0 where
   pub rest : (p : ℕ) → Position F p → RestBelowUnit isCharged F p (termCount F p)
 
 -- What is promised: the three demands; the smallest number that applies, a sheet as its tickets one by one, too many tickets refused by 3 or
--- 4, the halves of a ticket; looks that equal posts onto a copy; squarings handed back and quoted, where E falls and stays short; digits as from a
+-- 4, the halves of a ticket; looks that equal posts onto a copy; ledgers with a book, from which tickets are withdrawn; squarings handed back and quoted, where E falls and stays short; digits as from a
 -- ledger with one total; no digit lost since every term was charged; and that what demand 3 supposes can be had.
 pub record Promised (F : Formula) : Type 0 where
   pub demand1 : Demand1 F
@@ -36,6 +37,7 @@ pub record Promised (F : Formula) : Type 0 where
   pub demand3 : Demand3 F
   pub facts : Facts F
   pub looks : Looks F
+  pub books : Books F
   pub squarings : Countable F → Squarings F
   pub as-before : AsBefore F
   pub no-wider : NoWider F
