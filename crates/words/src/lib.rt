@@ -103,11 +103,7 @@ pub fn is_less(a: Wide, b: Wide) -> bool
 pub fn is_equal(a: Wide, b: Wide) -> bool
     ensures { λ r. ⌜ r ≡ eqb (joined (a .hi) (a .lo)) (joined (b .hi) (b .lo)) ⌝ }
 {
-    if a.hi == b.hi {
-        a.lo == b.lo
-    } else {
-        false
-    }
+    if a.hi == b.hi { a.lo == b.lo } else { false }
 }
 
 // Every byte 0.
