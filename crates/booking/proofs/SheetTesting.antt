@@ -16,7 +16,7 @@ use Rattle.run.specs.Call.{refusedBy, answered, Does}
 use Rattle.run.proofs.Calls.{finishes, was-worked, turned-down}
 use Rattle.sheet.specs.Sheet.{sheetCount, rowIn, blockIn, sumIn, entriesFrom, entries, allTickets}
 use Rattle.sheet.proofs.Each.{entry, entries-next}
-use Rattle.posting.specs.Calls.{sheetTests, enterEntry, AllEnterable}
+use Rattle.posting.specs.Calls.{enterEntry, AllEnterable}
 use Rattle.posting.proofs.Testing.{Posts, SheetTaken, sheet-taken, may-enter-all}
 use Rattle.posting.proofs.Admitting.{row-in, low}
 use Rattle.book.specs.Book.{bookSize, keptAt, viewWith, keep, keepEntry}

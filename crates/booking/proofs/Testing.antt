@@ -5,7 +5,7 @@ use mathlib.Core.Bool.{Bool, true, false, not, _&&_}
 use mathlib.Core.List.{List, [], _∷_, _++_}
 use Prim.Native.Nat.{ℕ, suc, _+_, _≤_, _<_}
 use native.Mathlib.Omega.{arith}
-use borrow.Author.Tests.{eqb-true, eq-eqb, ne-eqb}
+use borrow.Author.Tests.{eqb-true, eq-eqb, ne-eqb, not-false}
 use lib.Dec.{eqb}
 use lib.IntN.{pos, negsuc}
 use lib.ListN.{length}
@@ -42,6 +42,10 @@ with-book lim ledger book = record {
 pub book-sized : (lim : Limits) (ledger book : List ℕ) → viewWith lim ledger book .sized ≡ true → length book ≡ bookSize lim
 unfolding viewWith
 book-sized lim ledger book e = eqb-true (length book) (bookSize lim) (and-right (eqb (length ledger) (ledgerSize lim)) _ e)
+
+-- where a function that compared the sizes answered that they are right
+pub right-size : (lim : Limits) (ledger book : List ℕ) (b : Bool) → b ≡ viewWith lim ledger book .sized → not b ≡ false → viewWith lim ledger book .sized ≡ true
+right-size lim ledger book b e f = sym e ∙ not-false b f
 
 -- a ticket's place in the book
 pub keepable : (lim : Limits) (book : List ℕ) (row block : ℕ) → length book ≡ bookSize lim → row < lim .rows → block < 256

@@ -1,10 +1,9 @@
 -- `booking::test_entry` meets its contract: one law for each way out.
 -- Assumes nothing.
-use mathlib.Core.Path.{sym, _∙_}
 use borrow.Author.Needs.{needs}
 use borrow.Author.Tests.{not-true, not-false}
 use Rattle.book.specs.Book.{viewWith}
-use Rattle.booking.proofs.Testing.{with-book, book-sized, wrong-size, no-ticket, by-ledger}
+use Rattle.booking.proofs.Testing.{with-book, book-sized, right-size, wrong-size, no-ticket, by-ledger}
 use Rattle.booking.proofs.test_entry.Statement.{statement}
 use Rattle.booking.proofs.test_entry.Tie as tie
 
@@ -32,7 +31,7 @@ enum-told c = search needs
 test-book-requires : tie.Need-test-book-requires
 test-book-requires c κs =
     let size = c .before .before .before in
-    let right = sym (size .before .sized .ensures) ∙ not-false _ (size .if1 .left) in
+    let right = right-size _ _ _ _ (size .before .sized .ensures) (size .if1 .left) in
     (with-book _ _ _ .size right, book-sized _ _ _ right)
 
 returns-3 : tie.Need-returns-3

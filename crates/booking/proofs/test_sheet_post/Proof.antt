@@ -6,7 +6,7 @@ use borrow.Author.Needs.{needs}
 use borrow.Author.Tests.{not-true, not-false}
 use Rattle.sheet.proofs.Form.{sheet-fits}
 use Rattle.posting.proofs.Testing.{ledger-size, sheet-size, other-sheet, other-ledger, may-look, one-marked, admitted}
-use Rattle.booking.proofs.Testing.{with-book, book-sized}
+use Rattle.booking.proofs.Testing.{with-book, book-sized, right-size}
 use Rattle.booking.proofs.SheetTesting.{together}
 use Rattle.booking.proofs.test_sheet_post.Statement.{statement}
 use Rattle.booking.proofs.test_sheet_post.Tie as tie
@@ -34,7 +34,7 @@ returns-3 c =
     let sheet = c .before .before .before in
     let size = sheet .before in
     let ledger = size .before .before in
-    other-sheet (together _ _ _ _) _ (size .before .sized2 .ensures) (sym (ledger .before .sized .ensures) ∙ not-false _ (ledger .if1 .left)) (not-false _ (size .if2 .left)) _
+    other-sheet (together _ _ _ _) _ (size .before .sized2 .ensures) (right-size _ _ _ _ (ledger .before .sized .ensures) (ledger .if1 .left)) (not-false _ (size .if2 .left)) _
     (sheet .test-sheet .ensures) _ (c .before .r .given .1)
 
 enum-told : tie.Need-enum-told
@@ -53,7 +53,7 @@ get-requires-2 c κs =
 test-book-requires : tie.Need-test-book-requires
 test-book-requires c κs =
     let ledger = c .before .before .before .before .before .before .before in
-    let right = sym (ledger .before .sized .ensures) ∙ not-false _ (ledger .if1 .left) in
+    let right = right-size _ _ _ _ (ledger .before .sized .ensures) (ledger .if1 .left) in
     (with-book _ _ _ .size right, book-sized _ _ _ right)
 
 enum-known-r-2 : tie.Need-enum-known-r-2
@@ -67,7 +67,7 @@ returns-4 c =
     let sheet = told .before .before in
     let size = sheet .before in
     let ledger = size .before .before in
-    other-ledger (together _ _ _ _) _ (size .before .sized2 .ensures) (sym (ledger .before .sized .ensures) ∙ not-false _ (ledger .if1 .left)) (not-false _ (size .if2 .left)) _
+    other-ledger (together _ _ _ _) _ (size .before .sized2 .ensures) (right-size _ _ _ _ (ledger .before .sized .ensures) (ledger .if1 .left)) (not-false _ (size .if2 .left)) _
     (sheet .test-sheet .ensures) _ (told .enum-told .given .1) _ _ (read .before .get .ensures) (read .get2 .ensures) _ (other .test-book .ensures) _
     (c .before .r2 .given .1)
 
@@ -88,7 +88,7 @@ none-marked-requires c κs =
     let sheet = told .before .before in
     let size = sheet .before in
     let ledger = size .before .before in
-    may-look (together _ _ _ _) _ (size .before .sized2 .ensures) (sym (ledger .before .sized .ensures) ∙ not-false _ (ledger .if1 .left)) (not-false _ (size .if2 .left)) _
+    may-look (together _ _ _ _) _ (size .before .sized2 .ensures) (right-size _ _ _ _ (ledger .before .sized .ensures) (ledger .if1 .left)) (not-false _ (size .if2 .left)) _
     (sheet .test-sheet .ensures) _ (told .enum-told .given .1) _ _ (read .before .get .ensures) (read .get2 .ensures) _ (other .test-book .ensures) _
     (known .enum-told2 .given .1) _ (c .count .ensures .0)
 
@@ -102,7 +102,7 @@ returns-5 c =
     let sheet = told .before .before in
     let size = sheet .before in
     let ledger = size .before .before in
-    one-marked (together _ _ _ _) _ (size .before .sized2 .ensures) (sym (ledger .before .sized .ensures) ∙ not-false _ (ledger .if1 .left)) (not-false _ (size .if2 .left)) _
+    one-marked (together _ _ _ _) _ (size .before .sized2 .ensures) (right-size _ _ _ _ (ledger .before .sized .ensures) (ledger .if1 .left)) (not-false _ (size .if2 .left)) _
     (sheet .test-sheet .ensures) _ (told .enum-told .given .1) _ _ (read .before .get .ensures) (read .get2 .ensures) _ (other .test-book .ensures) _
     (known .enum-told2 .given .1) _ (count .count .ensures .0) _ (c .before .none-marked .ensures) (not-true _ (c .if3 .taken))
 
@@ -116,7 +116,7 @@ returns-6 c =
     let sheet = told .before .before in
     let size = sheet .before in
     let ledger = size .before .before in
-    admitted (together _ _ _ _) _ (size .before .sized2 .ensures) (sym (ledger .before .sized .ensures) ∙ not-false _ (ledger .if1 .left)) (not-false _ (size .if2 .left)) _
+    admitted (together _ _ _ _) _ (size .before .sized2 .ensures) (right-size _ _ _ _ (ledger .before .sized .ensures) (ledger .if1 .left)) (not-false _ (size .if2 .left)) _
     (sheet .test-sheet .ensures) _ (told .enum-told .given .1) _ _ (read .before .get .ensures) (read .get2 .ensures) _ (other .test-book .ensures) _
     (known .enum-told2 .given .1) _ (count .count .ensures .0) _ (c .before .none-marked .ensures) (not-false _ (c .if3 .left))
 
