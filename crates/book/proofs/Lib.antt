@@ -1,2 +1,4 @@
+pub mod Rows
+pub mod Removing
 pub mod Image
 pub mod Sound

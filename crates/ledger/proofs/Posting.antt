@@ -60,6 +60,42 @@ pub mark-is-bit : (lim : Limits) (s : List ℕ) (C row block : ℕ) → C ≡ bl
 unfolding markIn
 mark-is-bit lim s C row block e t = rw (← e, t) refl
 
+-- what is seen of a ledger is in its bytes
+pub record Shows (lim : Limits) (v : View) (s : List ℕ) : Type 0 where
+  pub size : v .sized ≡ true → length s ≡ ledgerSize lim
+  pub blocks : v .C ≡ blocksIn s
+  pub marks : (row block : ℕ) → v .marked row block ≡ markIn lim s row block
+
+pub own-view : (lim : Limits) (s : List ℕ) → Shows lim (viewOf lim s) s
+unfolding viewOf
+own-view lim s = record { size = eqb-true (length s) (ledgerSize lim); blocks = refl; marks = λ row block. refl }
+
+pub size-right : (lim : Limits) (s : List ℕ) → length s ≡ ledgerSize lim → viewOf lim s .sized ≡ true
+unfolding viewOf
+size-right lim s h = eq-eqb (length s) (ledgerSize lim) h
+
+pub size-wrong : (lim : Limits) (s : List ℕ) → (length s ≡ ledgerSize lim → ⊥) → viewOf lim s .sized ≡ false
+unfolding viewOf
+size-wrong lim s h = ne-eqb (length s) (ledgerSize lim) h
+
+-- where a ticket of its run stands
+pub record Place (lim : Limits) (v : View) (s : List ℕ) (row block : ℕ) : Type 0 where
+  pub sized : length s ≡ ledgerSize lim
+  pub row-in : row < lim .rows
+  pub block-in : block < 256
+  pub bit : v .marked row block ≡ bitIn lim s row block
+
+pub place : (lim : Limits) (v : View) (s : List ℕ) → Shows lim v s → (p C row block : ℕ) → v .sized ≡ true → inRange lim p C ≡ true
+    → isTicket lim C row block ≡ true → C ≡ v .C → Place lim v s row block
+place lim v s shows p C row block sized range ticket run =
+    let low = ticket-block lim C row block ticket in
+    record {
+      sized = shows .size sized;
+      row-in = ticket-row lim C row block ticket;
+      block-in = omega (arith, range-of lim p C range .C-high);
+      bit = shows .marks row block ∙ mark-is-bit lim s C row block (run ∙ shows .blocks) ticket;
+    }
+
 -- ---- what it means that the tests are passed, whatever the ledger is seen by
 
 pub ledger-passed : (v : View) (p C : ℕ) (ts : List Test) → refusal (ofLedger v p C ++ ts) ≡ 0
@@ -97,6 +133,13 @@ post-taken lim v p C row block sum e =
       new = not-true _ (passed 6 _ [] (l .3) .0);
     }
 
+-- the ticket has a place in the ledger, and is not marked there
+pub may-enter : (lim : Limits) (v : View) (s : List ℕ) → Shows lim v s → (p C row block : ℕ) (sum : List ℕ) → PostTaken lim v p C row block sum
+    → Enterable lim s row block
+may-enter lim v s shows p C row block sum t =
+    let at = place lim v s shows p C row block (t .sized) (t .range) (t .ticket) (t .same-C) in
+    record { sized = at .sized; row-in = at .row-in; block-in = at .block-in; new = sym (at .bit) ∙ t .new }
+
 -- ---- the tests in their order
 
 -- after those of the ticket the byte of its mark is in a ledger that has its size
@@ -126,18 +169,10 @@ module _ (lim : Limits) (s : List ℕ) (p C row block : ℕ) (sum : List ℕ) wh
 
   -- what is known where none applies
   pub enterable : refusedBy this ≡ 0 → (length sum ≡ 16) × Enterable lim s row block
-  unfolding postCall refusedBy viewOf
+  unfolding postCall refusedBy
   enterable e =
       let t = post-taken lim (viewOf lim s) p C row block sum e in
-      let low = ticket-block lim C row block (t .ticket) in (
-        t .sum-sized,
-        record {
-          sized = eqb-true (length s) (ledgerSize lim) (t .sized);
-          row-in = ticket-row lim C row block (t .ticket);
-          block-in = omega (arith, range-of lim p C (t .range) .C-high);
-          new = sym (mark-is-bit lim s C row block (t .same-C) (t .ticket)) ∙ t .new;
-        },
-      )
+      (t .sum-sized, may-enter lim (viewOf lim s) s (own-view lim s) p C row block sum t)
 
   pub ledger-size : (length s ≡ ledgerSize lim → ⊥) → negsuc 0 ≡ answered this
   ledger-size h = here all-tests (left-fails _ _ (ne-eqb _ _ h))
@@ -181,7 +216,7 @@ module _ (lim : Limits) (s : List ℕ) (p C row block : ℕ) (sum : List ℕ) wh
 -- ---- after the tests, by what they answered
 
 -- a sum's 16 bytes, read as a number of two words
-sum-read : (sum : List ℕ) → length sum ≡ 16 → field sum 0 16 ≡ valueOf sum
+pub sum-read : (sum : List ℕ) → length sum ≡ 16 → field sum 0 16 ≡ valueOf sum
 unfolding field
 sum-read sum h = ap valueOf (take-all 16 sum (omega arith))
 

@@ -37,10 +37,10 @@ module _ (lim : Limits) (s : List ℕ) (n : ℕ) (known : allTickets lim 256 (en
   is-known : isTicket lim 256 (rowIn s i) (blockIn s i) ≡ true
   is-known = all-at n (λ j. isTicket lim 256 (rowIn s j) (blockIn s j)) (sym (every-entries (λ t. isTicket lim 256 (t .row) (t .block)) s n) ∙ known) i l
 
-  row-in : rowIn s i < lim .rows
+  pub row-in : rowIn s i < lim .rows
   row-in = ticket-row lim 256 (rowIn s i) (blockIn s i) is-known
 
-  low : blockIn s i < 256
+  pub low : blockIn s i < 256
   low = ticket-block lim 256 (rowIn s i) (blockIn s i) is-known
 
   there : (ledger : List ℕ) → length ledger ≡ ledgerSize lim → markAt lim (rowIn s i) (blockIn s i) < length ledger

@@ -5,8 +5,6 @@ use mathlib.Core.Bool.{Bool, true, false, not, _&&_}
 use mathlib.Core.List.{List, [], _∷_, _++_, foldl}
 use Prim.Native.Nat.{ℕ, _+_, _*_, _≤_}
 use native.Mathlib.Omega.{arith}
-use borrow.Author.Tests.{eqb-true, eq-eqb, ne-eqb}
-use lib.Dec.{eqb}
 use lib.IntN.{pos, negsuc}
 use lib.ListN.{length}
 use Rattle.algebra.proofs.Booleans.{and-left, and-right, and-both, left-fails, right-fails}
@@ -25,9 +23,9 @@ use Rattle.run.proofs.Calls.{finishes, was-worked, turned-down}
 use Rattle.sheet.specs.Sheet.{sheetPos, sheetBlocks, sheetCount, entriesFrom, entries, every, allTickets}
 use Rattle.sheet.specs.Tests.{sheetSized, ofSheet}
 use Rattle.sheet.proofs.Form.{formed, formed-length, SheetPassed, sheet-passed}
-use Rattle.ledger.specs.Ledger.{View, viewOf, ledgerSize, blocksIn, markIn}
+use Rattle.ledger.specs.Ledger.{View, viewOf, ledgerSize}
 use Rattle.ledger.specs.Calls.{ofLedger, ofMarks}
-use Rattle.ledger.proofs.Posting.{mark-is-bit, ledger-passed}
+use Rattle.ledger.proofs.Posting.{mark-is-bit, Shows, own-view, ledger-passed}
 use Rattle.posting.specs.Calls.{sheetTests, enterEntry, sheetPostCall, unset, AllEnterable}
 
 -- ---- what it means that the tests are passed, whatever the ledger is seen by
@@ -76,7 +74,7 @@ every-same f g h same (t ∷ ts) a =
 
 module _ (lim : Limits) (ledger : List ℕ) (p C : ℕ) (ts : List Entry) (range : inRange lim p C ≡ true) (tickets : allTickets lim C ts ≡ true) where
   -- a run has at most 256 blocks, as many as a ledger has marks in a row
-  all-known : allTickets lim 256 ts ≡ true
+  pub all-known : allTickets lim 256 ts ≡ true
   all-known = every-and _ _ (λ t. isTicket lim 256 (t .row) (t .block))
       (λ t h l.
       let few = range-of lim p C range .C-high in
@@ -84,62 +82,74 @@ module _ (lim : Limits) (ledger : List ℕ) (p C : ℕ) (ts : List Entry) (range
       is-ticket lim 256 (t .row) (t .block) (ticket-row lim C (t .row) (t .block) h) (omega arith))
       ts tickets tickets
 
-  by-bits : C ≡ blocksIn ledger → every (λ t. not (markIn lim ledger (t .row) (t .block))) ts ≡ every (unset lim ledger) ts
-  by-bits run = every-same _ (unset lim ledger) _ (λ t h. ap not (mark-is-bit lim ledger C (t .row) (t .block) run h)) ts tickets
+  by-bits : (v : View) → Shows lim v ledger → C ≡ v .C → every (λ t. not (v .marked (t .row) (t .block))) ts ≡ every (unset lim ledger) ts
+  by-bits v shows run = every-same _ (unset lim ledger) _
+      (λ t h. ap not (shows .marks (t .row) (t .block) ∙ mark-is-bit lim ledger C (t .row) (t .block) (run ∙ shows .blocks) h)) ts tickets
 
--- ---- the tests in their order
+-- all of a sheet's tickets have a place in the ledger, and none is marked there
+pub may-enter-all : (lim : Limits) (v : View) (ledger s : List ℕ) → Shows lim v ledger → SheetTaken lim v s → AllEnterable lim ledger s
+may-enter-all lim v ledger s shows t =
+    let form = t .form in
+    record {
+      whole = formed-length s (form .well-formed);
+      ascends = formed s (form .well-formed);
+      sized = shows .size (t .sized);
+      placed = all-known lim ledger (sheetPos s) (sheetBlocks s) (entries s) (form .range) (form .tickets);
+      new = sym (by-bits lim ledger (sheetPos s) (sheetBlocks s) (entries s) (form .range) (form .tickets) v shows (t .same-C)) ∙ t .new;
+    }
 
-module _ (lim : Limits) (ledger s : List ℕ) where
-  abbrev this : Call
-  this = sheetPostCall lim ledger s
+-- ---- the tests in their order, whatever the call and whatever the ledger is seen by
 
-  abbrev sizes : Bool
-  sizes = eqb (length ledger) (ledgerSize lim) && sheetSized lim s
+-- a call that tests a sheet and the ledger that it is posted to
+pub record Posts (lim : Limits) (v : View) (ledger s : List ℕ) (call : Call) : Type 0 where
+  pub shows : Shows lim v ledger
+  pub all-tests : Left call (sheetTests lim v s)
+  pub zero : call .value ≡ 0
 
+module _ {lim : Limits} {v : View} {ledger s : List ℕ} {call : Call} (posts : Posts lim v ledger s call) where
   -- the last part, and the last two
   abbrev ofNew : List Test
-  ofNew = ofMarks (every (λ t. not (markIn lim ledger (t .row) (t .block))) (entries s))
+  ofNew = ofMarks (every (λ t. not (v .marked (t .row) (t .block))) (entries s))
 
   abbrev ofLedgerOn : List Test
-  ofLedgerOn = ofLedger (viewOf lim ledger) (sheetPos s) (sheetBlocks s) ++ ofNew
+  ofLedgerOn = ofLedger v (sheetPos s) (sheetBlocks s) ++ ofNew
 
-  all-tests : Left this (ofSizes sizes ++ ofSheet lim s ++ ofLedgerOn)
-  unfolding sheetPostCall sheetTests refusedBy viewOf
-  all-tests = record { decide = refl }
+  from-sizes : Left call (ofSizes (v .sized && sheetSized lim s) ++ ofSheet lim s ++ ofLedgerOn)
+  unfolding sheetTests
+  from-sizes = posts .all-tests
 
-  pub ledger-size : (length ledger ≡ ledgerSize lim → ⊥) → negsuc 0 ≡ answered this
-  ledger-size h = here all-tests (left-fails _ _ (ne-eqb _ _ h))
+  pub ledger-size : v .sized ≡ false → negsuc 0 ≡ answered call
+  ledger-size h = here from-sizes (left-fails _ _ h)
 
   module _ (b : Bool) (sheet-sized : b ≡ sheetSized lim s) where
-    pub sheet-size : b ≡ false → negsuc 0 ≡ answered this
-    sheet-size f = here all-tests (right-fails (eqb (length ledger) (ledgerSize lim)) _ (sym sheet-sized ∙ f))
+    pub sheet-size : b ≡ false → negsuc 0 ≡ answered call
+    sheet-size f = here from-sizes (right-fails (v .sized) _ (sym sheet-sized ∙ f))
 
-    module _ (sized : length ledger ≡ ledgerSize lim) (t : b ≡ true) (a : Answer) (ea : answerOf a ≡ tested (ofSheet lim s)) where
-      from-sheet : Left this (ofSheet lim s ++ ofLedgerOn)
-      from-sheet = past all-tests (and-both (eqb (length ledger) (ledgerSize lim)) _ (eq-eqb _ _ sized) (sym sheet-sized ∙ t))
+    module _ (sized : v .sized ≡ true) (t : b ≡ true) (a : Answer) (ea : answerOf a ≡ tested (ofSheet lim s)) where
+      from-sheet : Left call (ofSheet lim s ++ ofLedgerOn)
+      from-sheet = past from-sizes (and-both (v .sized) _ sized (sym sheet-sized ∙ t))
 
-      pub other-sheet : (r : Refusal) → a ≡ Refused r → answerOf (Refused r) ≡ answered this
+      pub other-sheet : (r : Refusal) → a ≡ Refused r → answerOf (Refused r) ≡ answered call
       other-sheet = part-here _ a ea ofLedgerOn from-sheet
 
-      module _ (v : ℕ) (f : a ≡ Finished v) (p C : ℕ) (ep : p ≡ field s 0 8) (eC : C ≡ field s 8 2)
-          (c : Answer) (ec : answerOf c ≡ tested (ofLedger (viewOf lim ledger) p C)) where
+      module _ (w : ℕ) (f : a ≡ Finished w) (p C : ℕ) (ep : p ≡ field s 0 8) (eC : C ≡ field s 8 2)
+          (c : Answer) (ec : answerOf c ≡ tested (ofLedger v p C)) where
         form : SheetPassed lim s
-        form = sheet-passed lim s [] (part-passes _ a ea v f) .0
+        form = sheet-passed lim s [] (part-passes _ a ea w f) .0
 
-        from-ledger : Left this ofLedgerOn
-        from-ledger = part-past _ a ea ofLedgerOn from-sheet refl v f
+        from-ledger : Left call ofLedgerOn
+        from-ledger = part-past _ a ea ofLedgerOn from-sheet refl w f
 
-        made : answerOf c ≡ tested (ofLedger (viewOf lim ledger) (sheetPos s) (sheetBlocks s))
+        made : answerOf c ≡ tested (ofLedger v (sheetPos s) (sheetBlocks s))
         unfolding sheetPos sheetBlocks
-        made = ec ∙ ap₂ (λ (x y : ℕ). tested (ofLedger (viewOf lim ledger) x y)) ep eC
+        made = ec ∙ ap₂ (λ (x y : ℕ). tested (ofLedger v x y)) ep eC
 
-        pub other-ledger : (r : Refusal) → c ≡ Refused r → answerOf (Refused r) ≡ answered this
+        pub other-ledger : (r : Refusal) → c ≡ Refused r → answerOf (Refused r) ≡ answered call
         other-ledger = part-here _ c made ofNew from-ledger
 
-        module _ (w : ℕ) (g : c ≡ Finished w) (e : ℕ) (counted : e ≡ sheetCount s) where
-          run : sheetBlocks s ≡ blocksIn ledger
-          unfolding viewOf
-          run = ledger-passed (viewOf lim ledger) (sheetPos s) (sheetBlocks s) [] (part-passes _ c made w g) .2
+        module _ (u : ℕ) (g : c ≡ Finished u) (e : ℕ) (counted : e ≡ sheetCount s) where
+          run : sheetBlocks s ≡ v .C
+          run = ledger-passed v (sheetPos s) (sheetBlocks s) [] (part-passes _ c made u g) .2
 
           all : entries s ≡ entriesFrom s 0 e
           unfolding entries
@@ -148,37 +158,33 @@ module _ (lim : Limits) (ledger s : List ℕ) where
           pub may-look : (16 + 4 * e ≤ length s) × (length ledger ≡ ledgerSize lim) × (allTickets lim 256 (entriesFrom s 0 e) ≡ true)
           may-look =
               let l = formed-length s (form .well-formed) in
-              (omega (arith, l, counted), sized, ap (allTickets lim 256) (sym all) ∙ all-known lim ledger _ _ (entries s) (form .range) (form .tickets))
+              (omega (arith, l, counted), posts .shows .size sized, ap (allTickets lim 256) (sym all) ∙ all-known lim ledger _ _ (entries s) (form .range) (form .tickets))
 
           module _ (n : Bool) (none : n ≡ every (unset lim ledger) (entriesFrom s 0 e)) where
-            marks : every (λ t. not (markIn lim ledger (t .row) (t .block))) (entries s) ≡ n
-            marks = by-bits lim ledger _ _ (entries s) (form .range) (form .tickets) run ∙ ap (every (unset lim ledger)) all ∙ sym none
+            marks : every (λ t. not (v .marked (t .row) (t .block))) (entries s) ≡ n
+            marks = by-bits lim ledger _ _ (entries s) (form .range) (form .tickets) v (posts .shows) run ∙ ap (every (unset lim ledger)) all ∙ sym none
 
-            from-marks : Left this ofNew
-            from-marks = part-past _ c made ofNew from-ledger refl w g
+            from-marks : Left call ofNew
+            from-marks = part-past _ c made ofNew from-ledger refl u g
 
-            pub one-marked : n ≡ false → negsuc 6 ≡ answered this
+            pub one-marked : n ≡ false → negsuc 6 ≡ answered call
             one-marked k = here from-marks (marks ∙ k)
 
-            pub admitted : n ≡ true → pos 0 ≡ answered this
-            unfolding sheetPostCall
-            admitted k = none-left (past from-marks (marks ∙ k))
+            pub admitted : n ≡ true → pos 0 ≡ answered call
+            admitted k = sym (ap pos (posts .zero)) ∙ none-left (past from-marks (marks ∙ k))
+
+-- posting without a book
+pub alone : (lim : Limits) (ledger s : List ℕ) → Posts lim (viewOf lim ledger) ledger s (sheetPostCall lim ledger s)
+unfolding sheetPostCall refusedBy
+alone lim ledger s = record { shows = own-view lim ledger; all-tests = record { decide = refl }; zero = refl }
 
 -- ---- after the tests, by what they answered
 
 module _ (lim : Limits) (ledger s : List ℕ) (a : Answer) (made : answerOf a ≡ answered (sheetPostCall lim ledger s)) where
   pub none-applied : (v : ℕ) → a ≡ Finished v → AllEnterable lim ledger s
-  unfolding sheetPostCall refusedBy viewOf
+  unfolding sheetPostCall refusedBy
   none-applied v f =
-      let t = sheet-taken lim (viewOf lim ledger) s (was-worked _ a made v f .0) in
-      let form = t .form in
-      record {
-        whole = formed-length s (form .well-formed);
-        ascends = formed s (form .well-formed);
-        sized = eqb-true (length ledger) (ledgerSize lim) (t .sized);
-        placed = all-known lim ledger (sheetPos s) (sheetBlocks s) (entries s) (form .range) (form .tickets);
-        new = sym (by-bits lim ledger (sheetPos s) (sheetBlocks s) (entries s) (form .range) (form .tickets) (t .same-C)) ∙ t .new;
-      }
+      may-enter-all lim (viewOf lim ledger) ledger s (own-view lim ledger) (sheet-taken lim (viewOf lim ledger) s (was-worked _ a made v f .0))
 
   pub posted : (v : ℕ) (t : List ℕ) → a ≡ Finished v → t ≡ foldl (enterEntry lim) ledger (entries s)
       → Does (sheetPostCall lim ledger s) (pos 0) (t ∷ [])

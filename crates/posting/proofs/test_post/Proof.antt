@@ -5,7 +5,8 @@ use native.Mathlib.Omega.{arith}
 use borrow.Author.Needs.{needs}
 use borrow.Author.Tests.{not-true, not-false}
 use Rattle.sheet.proofs.Form.{sheet-fits}
-use Rattle.posting.proofs.Testing.{ledger-size, sheet-size, other-sheet, other-ledger, may-look, one-marked, admitted}
+use Rattle.ledger.proofs.Posting.{size-right, size-wrong}
+use Rattle.posting.proofs.Testing.{alone, ledger-size, sheet-size, other-sheet, other-ledger, may-look, one-marked, admitted}
 use Rattle.posting.proofs.test_post.Statement.{statement}
 use Rattle.posting.proofs.test_post.Tie as tie
 
@@ -13,13 +14,13 @@ ledger-size-requires : tie.Need-ledger-size-requires
 ledger-size-requires c κs = search needs
 
 returns : tie.Need-returns
-returns c = ledger-size _ _ _ (λ e. c .if1 .taken (e ∙ sym (c .before .ledger-size .ensures)))
+returns c = ledger-size (alone _ _ _) (size-wrong _ _ (λ e. c .if1 .taken (e ∙ sym (c .before .ledger-size .ensures))))
 
 sized-requires : tie.Need-sized-requires
 sized-requires c κs = search needs
 
 returns-2 : tie.Need-returns-2
-returns-2 c = sheet-size _ _ _ _ (c .before .sized .ensures) (not-true _ (c .if2 .taken))
+returns-2 c = sheet-size (alone _ _ _) _ (c .before .sized .ensures) (not-true _ (c .if2 .taken))
 
 test-sheet-requires : tie.Need-test-sheet-requires
 test-sheet-requires c κs = sheet-fits _ _ (sym (c .before .sized .ensures) ∙ not-false _ (c .if2 .left)) .0
@@ -32,7 +33,7 @@ returns-3 c =
     let sheet = c .before .before .before in
     let size = sheet .before in
     let ledger = size .before .before in
-    other-sheet _ _ _ _ (size .before .sized .ensures) (ledger .if1 .left ∙ ledger .before .ledger-size .ensures) (not-false _ (size .if2 .left)) _
+    other-sheet (alone _ _ _) _ (size .before .sized .ensures) (size-right _ _ (ledger .if1 .left ∙ ledger .before .ledger-size .ensures)) (not-false _ (size .if2 .left)) _
     (sheet .test-sheet .ensures) _ (c .before .r .given .1)
 
 enum-told : tie.Need-enum-told
@@ -62,7 +63,7 @@ returns-4 c =
     let sheet = told .before .before in
     let size = sheet .before in
     let ledger = size .before .before in
-    other-ledger _ _ _ _ (size .before .sized .ensures) (ledger .if1 .left ∙ ledger .before .ledger-size .ensures) (not-false _ (size .if2 .left)) _
+    other-ledger (alone _ _ _) _ (size .before .sized .ensures) (size-right _ _ (ledger .if1 .left ∙ ledger .before .ledger-size .ensures)) (not-false _ (size .if2 .left)) _
     (sheet .test-sheet .ensures) _ (told .enum-told .given .1) _ _ (read .before .get .ensures) (read .get2 .ensures) _ (other .test-ledger .ensures) _
     (c .before .r2 .given .1)
 
@@ -83,7 +84,7 @@ none-marked-requires c κs =
     let sheet = told .before .before in
     let size = sheet .before in
     let ledger = size .before .before in
-    may-look _ _ _ _ (size .before .sized .ensures) (ledger .if1 .left ∙ ledger .before .ledger-size .ensures) (not-false _ (size .if2 .left)) _
+    may-look (alone _ _ _) _ (size .before .sized .ensures) (size-right _ _ (ledger .if1 .left ∙ ledger .before .ledger-size .ensures)) (not-false _ (size .if2 .left)) _
     (sheet .test-sheet .ensures) _ (told .enum-told .given .1) _ _ (read .before .get .ensures) (read .get2 .ensures) _ (other .test-ledger .ensures) _
     (known .enum-told2 .given .1) _ (c .count .ensures .0)
 
@@ -97,7 +98,7 @@ returns-5 c =
     let sheet = told .before .before in
     let size = sheet .before in
     let ledger = size .before .before in
-    one-marked _ _ _ _ (size .before .sized .ensures) (ledger .if1 .left ∙ ledger .before .ledger-size .ensures) (not-false _ (size .if2 .left)) _
+    one-marked (alone _ _ _) _ (size .before .sized .ensures) (size-right _ _ (ledger .if1 .left ∙ ledger .before .ledger-size .ensures)) (not-false _ (size .if2 .left)) _
     (sheet .test-sheet .ensures) _ (told .enum-told .given .1) _ _ (read .before .get .ensures) (read .get2 .ensures) _ (other .test-ledger .ensures) _
     (known .enum-told2 .given .1) _ (count .count .ensures .0) _ (c .before .none-marked .ensures) (not-true _ (c .if3 .taken))
 
@@ -111,7 +112,7 @@ returns-6 c =
     let sheet = told .before .before in
     let size = sheet .before in
     let ledger = size .before .before in
-    admitted _ _ _ _ (size .before .sized .ensures) (ledger .if1 .left ∙ ledger .before .ledger-size .ensures) (not-false _ (size .if2 .left)) _
+    admitted (alone _ _ _) _ (size .before .sized .ensures) (size-right _ _ (ledger .if1 .left ∙ ledger .before .ledger-size .ensures)) (not-false _ (size .if2 .left)) _
     (sheet .test-sheet .ensures) _ (told .enum-told .given .1) _ _ (read .before .get .ensures) (read .get2 .ensures) _ (other .test-ledger .ensures) _
     (known .enum-told2 .given .1) _ (count .count .ensures .0) _ (c .before .none-marked .ensures) (not-false _ (c .if3 .left))
 
