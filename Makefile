@@ -63,7 +63,7 @@ OF_A_KIND = $(CALLS) refusals tickets halves list
 TESTS = $(OF_A_KIND) $(BELLARD_CALLS) $(DIGIT_CALLS) $(OF_A_KIND:%=check_%) kinds histories
 
 # What a test is linked with: of its kind, and of both.
-SUPPORT = common entries sheets postings books vectors working quoting overlapping
+SUPPORT = common plain entries sheets postings books vectors working quoting overlapping
 REFERENCE = reference reference_close reference_quote reference_overlap reference_book
 HEADERS = $(wildcard include/*.h tests/*.h examples/*.h bench/*.h)
 
