@@ -28,10 +28,10 @@ void any_book(struct book *book, uint8_t *ledger);
 enum { BOOK_KINDS = 11 };
 int damage_book(struct book *book, uint8_t *ledger, int kind);
 
-/* A call on books of sizes around 0, the book's own and others: it gives `answer` at the book's own, and refusal 1 at any other. */
+/* A call on books of sizes around 0, around the book's own, and others: it gives `answer` at the book's own, else refusal 1. */
 void every_book_size(void (*prepare)(void), int64_t (*compare)(void), size_t *book_len, int64_t answer);
 
-/* After a call: the ledger in slot 0 and the book in slot 1 are as wanted. They are left so for a next call; frees the wanted ones. */
+/* After a call: the ledger in slot 0 and the book in slot 1 are as wanted, and are left so for a next call. Frees the wanted. */
 void expect_both(uint8_t *ledger, size_t ledger_len, struct book *book, uint8_t *wanted_ledger, uint8_t *wanted_book);
 
 /*

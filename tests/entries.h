@@ -1,4 +1,4 @@
-/* Cases of one ticket and the ledger that it meets, for the tests of posting a ticket, with a book or without, and of withdrawing one. */
+/* Cases of one ticket and the ledger that it meets, for the tests of posting it, with a book or without, and of withdrawing it. */
 #ifndef ENTRIES_H
 #define ENTRIES_H
 

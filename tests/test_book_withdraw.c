@@ -118,7 +118,7 @@ static const struct {
     {"a borrow through the words", SUM(10, 0), SUM(5, 1), SUM(4, UINT64_MAX)},
 };
 
-/* One subtraction in one row: its sum, the ticket's mark and its place are changed, and no other byte. The rest of the row is the other ticket's. */
+/* One subtraction in one row: its sum, the ticket's mark and its place are changed, and no other byte. Another ticket has the rest. */
 static void take_from_row(size_t i, uint64_t row)
 {
     static uint8_t wanted[LEDGER_SIZE];
@@ -194,7 +194,7 @@ static void damages(uint64_t c, uint64_t chance, uint64_t row, uint64_t block)
     every_damage(t.ledger, &book, withdraw_by);
 }
 
-/* A marked ticket that keeps zero is withdrawn; one that is not marked is refused with 13, in a row that has marks and in one that has none. */
+/* A marked ticket that keeps zero is withdrawn; one that is not marked is not, whatever marks its row has. */
 static void marked_or_not(void)
 {
     for (uint64_t row = 0; row < ROWS; row++) {

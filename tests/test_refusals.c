@@ -292,7 +292,7 @@ static void try_overlap_example(const struct overlap_example *x)
         expect_kept(slot, x->words);
 }
 
-/* A ledger of the run p = 1, C = 2 on which row 0, block 0 is marked, with row sum 5, and its book with 5 there; then both patched. */
+/* A ledger of p = 1, C = 2 with row 0, block 0 marked and a row sum of 5, and its book, with 5 there; then both patched. */
 static const struct book_example {
     int number;
     const char *words;
