@@ -202,9 +202,9 @@ static void try_damage(book_call *call, int in_order, const char *what, uint64_t
               "%s, %" PRIu64 " and %" PRIu64 ": a byte was changed", what, at, other);
 }
 
-static void every_byte(const uint8_t *ledger, const struct book *book, book_call *call)
+static void every_byte(const uint8_t *ledger, const struct book *book, book_call *call, uint64_t step)
 {
-    for (size_t at = 0; at < BOOK_SIZE; at++) {
+    for (size_t at = below(step); at < BOOK_SIZE; at += 1 + below(2 * step - 1)) {
         uint64_t row = at / 4096, block = at / 16 % 256;
         copy_both(ledger, book);
         damaged.bytes[at] ^= (uint8_t)(1 + below(255));
@@ -258,11 +258,11 @@ static void every_move(const uint8_t *ledger, const struct book *book, book_call
         }
 }
 
-void every_damage(const uint8_t *ledger, const struct book *book, book_call *call)
+void every_damage(const uint8_t *ledger, const struct book *book, book_call *call, uint64_t step)
 {
     copy_both(ledger, book);
     try_damage(call, 1, "no damage", 0, 0);
     every_row_sum(ledger, book, call);
     every_move(ledger, book, call);
-    every_byte(ledger, book, call);
+    every_byte(ledger, book, call, step);
 }

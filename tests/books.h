@@ -39,12 +39,13 @@ void expect_both(uint8_t *ledger, size_t ledger_len, struct book *book, uint8_t 
  * then not in order together it answers refusal 5 and changes no byte; else it
  * answers 0.
  *
- * Each byte of the book, alone and with its row sum: the second is in order at a
- * marked place. Each byte of each row sum. A sum moved from one place of the book
- * to another, by places at the edges of C and of a row: in order within the
- * marked places of a row. A sum moved from one row sum to another.
+ * Each byte of each row sum. A sum moved from one row sum to another. A sum moved
+ * from one place of the book to another, by places at the edges of C and of a
+ * row: in order within the marked places of a row. Bytes of the book, one at a
+ * time, alone and with the row sum: the second is in order at a marked place.
+ * These are all bytes where `step` is 1, else every one of so many, by chance.
  */
 typedef int64_t book_call(uint8_t *ledger, size_t ledger_len, uint8_t *book, size_t book_len);
-void every_damage(const uint8_t *ledger, const struct book *book, book_call *call);
+void every_damage(const uint8_t *ledger, const struct book *book, book_call *call, uint64_t step);
 
 #endif

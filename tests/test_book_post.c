@@ -106,14 +106,14 @@ static int64_t post_by(uint8_t *ledger, size_t ledger_len, uint8_t *lent_book, s
 }
 
 /* All but the ticket marked, or half of the tickets; the ticket is at an end of the run or anywhere. */
-static void damages(uint64_t c, uint64_t chance, uint64_t row, uint64_t block)
+static void damages(uint64_t c, uint64_t chance, uint64_t row, uint64_t block, uint64_t step)
 {
     prepare();
     t.c = c, t.row = row, t.block = block;
     any_ledger(t.ledger, t.p, c, chance);
     set_mark(t.ledger, row, block, 0);
     any_book(&book, t.ledger);
-    every_damage(t.ledger, &book, post_by);
+    every_damage(t.ledger, &book, post_by, step);
 }
 
 /* A post without the book leaves a ledger that the book does not fit, unless the sum was 0. */
@@ -184,8 +184,8 @@ int main(int argc, char **argv)
     for (int i = 0; i < 5; i++)
         every_ticket(counts[i]);
     run_suite(&suite);
-    damages(256, 256, 6, 255);
-    damages(200, 128, 0, 0);
+    damages(256, 256, 6, 255, 16);
+    damages(200, 128, 0, 0, 1);
     require_met("1 2 4 5 6 7 1+2 1+4 1+5 1+6 1+7 2+4 2+5 2+6 2+7 4+5 4+6 4+7 5+6 5+7 6+7");
     return finish();
 }

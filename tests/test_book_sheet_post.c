@@ -121,14 +121,14 @@ static int64_t post_by(uint8_t *ledger, size_t ledger_len, uint8_t *lent_book, s
 }
 
 /* A sheet of the first tickets, onto a ledger on which the others are marked, or half of them. */
-static void damages(uint64_t c, uint64_t e, uint64_t chance)
+static void damages(uint64_t c, uint64_t e, uint64_t chance, uint64_t step)
 {
     first_tickets(&t, c, e);
     ledger_of(&t, c, chance);
     for (uint64_t i = 0; i < e; i++)
         set_mark(t.ledger, i / c, i % c, 0);
     any_book(&book, t.ledger);
-    every_damage(t.ledger, &book, post_by);
+    every_damage(t.ledger, &book, post_by, step);
 }
 
 static void null_and_huge_examples(void)
@@ -189,8 +189,8 @@ int main(int argc, char **argv)
     for (uint64_t i = 0; i < 1 + case_count() / 20; i++)
         one_by_one();
     run_suite(&suite);
-    damages(256, 3, 256);
-    damages(200, 300, 128);
+    damages(256, 3, 256, 16);
+    damages(200, 9, 128, 1);
     require_met("1 2 3 4 5 6 7 1+2 1+3 1+4 1+5 1+6 1+7 2+3 2+4 2+5 2+6 2+7 3+4 3+5 3+6 3+7 4+5 4+6 4+7 5+6 5+7 6+7");
     return finish();
 }

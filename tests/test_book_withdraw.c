@@ -118,7 +118,7 @@ static const struct {
     {"a borrow through the words", SUM(10, 0), SUM(5, 1), SUM(4, UINT64_MAX)},
 };
 
-/* One subtraction in one row: its sum, the ticket's mark and its place are changed, and no other byte. Another ticket has the rest. */
+/* One subtraction in one row: its sum, the ticket's mark and its place change, and no other byte. Another ticket has the rest. */
 static void take_from_row(size_t i, uint64_t row)
 {
     static uint8_t wanted[LEDGER_SIZE];
@@ -188,10 +188,10 @@ static void either_order(void)
     CHECK(memcmp(other.bytes, book.bytes, BOOK_SIZE) == 0, "the order of two withdrawals changes the book");
 }
 
-static void damages(uint64_t c, uint64_t chance, uint64_t row, uint64_t block)
+static void damages(uint64_t c, uint64_t chance, uint64_t row, uint64_t block, uint64_t step)
 {
     make(c, chance, row, block, 1);
-    every_damage(t.ledger, &book, withdraw_by);
+    every_damage(t.ledger, &book, withdraw_by, step);
 }
 
 /* A marked ticket that keeps zero is withdrawn; one that is not marked is not, whatever marks its row has. */
@@ -245,8 +245,8 @@ int main(int argc, char **argv)
         either_order();
     }
     run_suite(&suite);
-    damages(256, 256, 0, 0);
-    damages(200, 128, 6, 199);
+    damages(256, 256, 0, 0, 16);
+    damages(200, 128, 6, 199, 1);
     require_met("1 2 4 5 6 13 1+2 1+4 1+5 1+6 1+13 2+4 2+5 2+6 2+13 4+5 4+6 4+13 5+6 5+13 6+13");
     return finish();
 }

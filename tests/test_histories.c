@@ -204,7 +204,7 @@ static void fill_without(uint8_t *other)
     }
 }
 
-/* Filled with wrong sums, all withdrawn, in some order, and posted with the right ones: the ledger is that of a run without all this. */
+/* Filled with wrong sums, all withdrawn, in some order, then filled with right ones: the ledger is that of a run without these. */
 static void filled_history(uint64_t p, uint64_t c)
 {
     uint8_t other[LEDGER_SIZE], digits[32], sum[16];

@@ -1503,11 +1503,11 @@ static void add_kept(const booked *b, uint64_t row, uint8_t *sum)
     }
 }
 
+/* Up to 32 bytes. */
 static int is_zero(const uint8_t *at, size_t len)
 {
-    while (len > 0 && at[len - 1] == 0)
-        len--;
-    return len == 0;
+    static const uint8_t zeros[32];
+    return memcmp(at, zeros, len) == 0;
 }
 
 /* Refusal 5 by the book: row sums that what is kept does not add up to, and what is kept without a mark. */
@@ -1591,15 +1591,22 @@ static int64_t bad_state(const formula *f, const booked *b, uint64_t p, uint64_t
 }
 
 /* What wrong engines write where they refuse. */
-static void write_both(const formula *f, const booked *b, int64_t answer)
+
+static void repair(const formula *f, const booked *b)
 {
     for (uint64_t row = 0; row < f->rows; row++) {
-        if (WRONG(414) && answer == -5)
+        if (WRONG(414))
             add_kept(b, row, b->ledger + sum_at(f, row));
-        for (uint64_t block = 0; block < BLOCKS; block++)
-            if (WRONG(415) && answer == -5 && !is_marked(f, b->ledger, row, block))
+        for (uint64_t block = 0; block < BLOCKS && WRONG(415); block++)
+            if (!is_marked(f, b->ledger, row, block))
                 memset(kept_at(b, row, block), 0, 16);
     }
+}
+
+static void write_both(const formula *f, const booked *b, int64_t answer)
+{
+    if (answer == -5)
+        repair(f, b);
     if ((WRONG(416) && answer == -5) || (WRONG(417) && answer == -6) || (WRONG(418) && answer == -7) ||
         (WRONG(419) && answer == -4) || (WRONG(420) && answer == -2))
         memset(b->book, 0, BOOK);
