@@ -1498,9 +1498,11 @@ static void add_kept(const booked *b, uint64_t row, uint8_t *sum)
             columns[i] += kept[i];
     }
     for (int i = 0; i < 16; i++, carry >>= 8) {
-        carry += columns[i];
+        carry = columns[i] + (WRONG(492) && i == 8 ? 0 : carry);
         sum[i] = (uint8_t)carry;
     }
+    if (WRONG(493) && carry > 0)
+        memset(sum, 255, 16);
 }
 
 /* Up to 32 bytes. */
@@ -1753,6 +1755,23 @@ static int64_t refused_sheet(const formula *f, const booked *b, const uint8_t *s
     return bad_state(f, b, load(sheet, 8), load(sheet + 8, 2), any_marked(f, b->ledger, sheet) && !WRONG(458) ? -7 : 0);
 }
 
+/* What is lent for a sheet, as an engine sees it that tests after the post. */
+static int64_t refused_sheet_late(const formula *f, const booked *b, const uint8_t *sheet, size_t sheet_len)
+{
+    static uint8_t ledger[352], book[BOOK];
+    const booked copy = {ledger, sizeof ledger, book, sizeof book};
+    size_t e = load(sheet + 10, 2);
+    memcpy(ledger, b->ledger, sizeof ledger);
+    memcpy(book, b->book, sizeof book);
+    for (size_t i = 0; i < e; i++) {
+        if (WRONG(490))
+            memset(kept_at(&copy, sheet[16 + 4 * i], sheet[18 + 4 * i]), 0, 16);
+        else
+            add(f, ledger, sheet[16 + 4 * i], sheet + 16 + 4 * e + 16 * i);
+    }
+    return refused_sheet(f, &copy, sheet, sheet_len);
+}
+
 /* The sums of a sheet, or of some of its tickets. */
 static void keep_sheet(const formula *f, const booked *b, const uint8_t *sheet, size_t e)
 {
@@ -1784,6 +1803,8 @@ static void keep_until_marked(const formula *f, const booked *b, const uint8_t *
 static int64_t book_sheet_post(const formula *f, const booked *b, const uint8_t *sheet, size_t sheet_len)
 {
     int64_t bad = refused_sheet(f, b, sheet, sheet_len);
+    if ((WRONG(490) || WRONG(491)) && (bad == -5 || bad == 0))
+        bad = refused_sheet_late(f, b, sheet, sheet_len);
     if (bad < -1 && b->book_len == BOOK)
         write_both(f, b, bad);
     if ((WRONG(464) || WRONG(465)) && bad == -7)
