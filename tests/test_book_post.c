@@ -179,12 +179,13 @@ int main(int argc, char **argv)
     plain_examples();
     without_the_book();
     marked_zeros();
+    damages(256, 256, 6, 255, 64);
+    damages(200, 128, 0, 0, 64);
     every_ledger_size(prepare, compare, &t.ledger_len, 0);
     every_book_size(prepare, compare, &book.len, 0);
     for (int i = 0; i < 5; i++)
         every_ticket(counts[i]);
     run_suite(&suite);
-    damages(256, 256, 6, 255, 16);
     damages(200, 128, 0, 0, 1);
     require_met("1 2 4 5 6 7 1+2 1+4 1+5 1+6 1+7 2+4 2+5 2+6 2+7 4+5 4+6 4+7 5+6 5+7 6+7");
     return finish();

@@ -176,20 +176,21 @@ int main(int argc, char **argv)
     static const struct suite suite = {prepare, damage, POSTING_KINDS + BOOK_KINDS, compare};
     start("book_sheet_post", argc, argv);
     every_posting(&t, with_a_book);
+    damages(256, 3, 256, 64);
+    damages(200, 9, 128, 64);
     sheet_after_sheet(1);
     sheet_after_sheet(256);
     null_and_huge_examples();
     no_tickets();
     every_ledger_size(prepare, compare, &t.ledger_len, 0);
     every_book_size(prepare, compare, &book.len, 0);
+    for (uint64_t i = 0; i < 1 + case_count() / 20; i++)
+        one_by_one();
+    run_suite(&suite);
     one_marked(&t, with_a_book, 1);
     one_marked(&t, with_a_book, 9);
     every_count();
     more_than_the_run_has(&t, with_a_book);
-    for (uint64_t i = 0; i < 1 + case_count() / 20; i++)
-        one_by_one();
-    run_suite(&suite);
-    damages(256, 3, 256, 16);
     damages(200, 9, 128, 1);
     require_met("1 2 3 4 5 6 7 1+2 1+3 1+4 1+5 1+6 1+7 2+3 2+4 2+5 2+6 2+7 3+4 3+5 3+6 3+7 4+5 4+6 4+7 5+6 5+7 6+7");
     return finish();

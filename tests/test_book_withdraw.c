@@ -236,6 +236,8 @@ int main(int argc, char **argv)
     null_and_huge_examples();
     marked_or_not();
     every_subtraction();
+    damages(256, 256, 0, 0, 64);
+    damages(200, 128, 6, 199, 64);
     every_ledger_size(prepare, compare, &t.ledger_len, 0);
     every_book_size(prepare, compare, &book.len, 0);
     for (int i = 0; i < 5; i++)
@@ -245,7 +247,6 @@ int main(int argc, char **argv)
         either_order();
     }
     run_suite(&suite);
-    damages(256, 256, 0, 0, 16);
     damages(200, 128, 6, 199, 1);
     require_met("1 2 4 5 6 13 1+2 1+4 1+5 1+6 1+13 2+4 2+5 2+6 2+13 4+5 4+6 4+13 5+6 5+13 6+13");
     return finish();
