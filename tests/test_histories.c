@@ -69,20 +69,27 @@ static int64_t look_at(const uint8_t *sheet, size_t len, uint8_t *total)
     return seen;
 }
 
-static void post_sheet(uint64_t chance)
+static void post_sheet(uint64_t p, const uint8_t *list, size_t e, const uint8_t *sheet)
 {
-    static uint8_t list[LIST_MAX], sheet[SHEET_MAX];
     uint8_t total[16];
-    uint64_t p = near_position();
-    size_t e = any_list(list, plain.c, chance), len = any_sheet(sheet, p, plain.c, list, e);
     int wanted = plain_list_answer(&plain, p, list, e);
-    int64_t seen = look_at(sheet, len, total);
-    CHECK(bbp_book_sheet_post(LENT, sheet, len) == wanted, "sheet post: the answer is not the plain ledger's");
+    int64_t seen = look_at(sheet, SHEET_SIZE(e), total);
+    CHECK(bbp_book_sheet_post(LENT, sheet, SHEET_SIZE(e)) == wanted, "sheet post: the answer is not the plain ledger's");
     if (wanted == 0)
         take_list(&plain, list, e, sheet + 16 + 4 * e);
     compare_bytes("a sheet post");
     CHECK(seen == wanted || (wanted == 0 && seen > 0), "a look answers %" PRId64 " before a post that answers %d", seen, wanted);
     CHECK(wanted != 0 || ref_load_sum(total) == ref_total(FORMULA, ledger), "the total of a look");
+}
+
+static uint8_t list[LIST_MAX], sheet[SHEET_MAX];
+
+static void post_any_sheet(uint64_t chance)
+{
+    uint64_t p = near_position();
+    size_t e = any_list(list, plain.c, chance);
+    any_sheet(sheet, p, plain.c, list, e);
+    post_sheet(p, list, e, sheet);
 }
 
 /* 13 takes the place of 7: the plain ledger refuses what is not in its set. */
@@ -111,15 +118,15 @@ static void withdraw_any(int taken)
 static void out_of_table(void)
 {
     const uint64_t p = plain.p, c = plain.c;
-    uint8_t sum[16] = {0}, sheet[16] = {0};
+    uint8_t sum[16] = {0}, zeros[16] = {0};
     CHECK(bbp_book_post(LENT, p, c, ROWS, 0, sum, 16) == -4, "row above the last");
     CHECK(bbp_book_post(LENT, p, c, 0, c, sum, 16) == -4, "block C");
     CHECK(bbp_book_post(LENT, 0, c, 0, 0, sum, 16) == -2, "p = 0");
     CHECK(bbp_book_post(LENT, p, c, 0, 0, sum, 15) == -1, "a sum of 15 bytes");
     CHECK(bbp_book_post(ledger, sizeof ledger, book, sizeof book - 1, p, c, 0, 0, sum, 16) == -1, "a book of a byte less");
-    CHECK(bbp_book_sheet_post(LENT, sheet, 15) == -1, "a sheet of 15 bytes");
-    CHECK(bbp_book_sheet_post(LENT, sheet, 16) == -2, "a sheet of zeros");
-    CHECK(bbp_book_sheet_post(ledger, sizeof ledger, book, sizeof book - 16, sheet, 16) == -1, "a book of 16 bytes less");
+    CHECK(bbp_book_sheet_post(LENT, zeros, 15) == -1, "a sheet of 15 bytes");
+    CHECK(bbp_book_sheet_post(LENT, zeros, 16) == -2, "a sheet of zeros");
+    CHECK(bbp_book_sheet_post(ledger, sizeof ledger, book, sizeof book - 16, zeros, 16) == -1, "a book of 16 bytes less");
     CHECK(bbp_book_withdraw(LENT, p, c, ROWS, 0) == -4, "withdrawal: row above the last");
     CHECK(bbp_book_withdraw(LENT, p, c, 0, c) == -4, "withdrawal: block C");
     CHECK(bbp_book_withdraw(LENT, LAST_POSITION + 1, c, 0, 0) == -2, "withdrawal: p above the last");
@@ -131,15 +138,12 @@ static void out_of_table(void)
 /* A byte of the book is changed for a moment: every call by it is refused. */
 static void by_a_damaged_book(void)
 {
-    uint8_t sum[16] = {1}, sheet[16] = {0};
-    size_t at = below(BOOK_SIZE);
-    uint8_t change = (uint8_t)(1 + below(255));
-    put(sheet, 8, plain.p);
-    put(sheet + 8, 2, plain.c);
+    uint8_t sum[16] = {1}, change = (uint8_t)(1 + below(255));
+    size_t at = below(BOOK_SIZE), len = any_sheet(sheet, plain.p, plain.c, list, 0);
     book[at] ^= change;
     CHECK(bbp_book_post(LENT, plain.p, plain.c, below(ROWS), below(plain.c), sum, 16) == -5, "post by a damaged book");
     CHECK(bbp_book_withdraw(LENT, plain.p, plain.c, below(ROWS), below(plain.c)) == -5, "withdrawal by a damaged book");
-    CHECK(bbp_book_sheet_post(LENT, sheet, 16) == -5, "a sheet by a damaged book");
+    CHECK(bbp_book_sheet_post(LENT, sheet, len) == -5, "a sheet by a damaged book");
     book[at] ^= change;
     compare_bytes("calls by a damaged book");
 }
@@ -159,8 +163,8 @@ static void one_history(void)
     for (uint64_t calls = below(200); calls > 0; calls--)
         switch (below(12)) {
         case 0: out_of_table(); break;
-        case 1: post_sheet(below(4)); break;
-        case 2: post_sheet(below(8) == 0 ? 256 : 1); break;
+        case 1: post_any_sheet(below(4)); break;
+        case 2: post_any_sheet(below(8) == 0 ? 256 : 1); break;
         case 3: withdraw_any(0); break;
         case 4:
         case 5:
@@ -193,6 +197,17 @@ static void post_at_last(uint64_t row, uint64_t block)
     CHECK(post_one(plain.p, plain.c, row, block, sum) == 0, "a post with the right sum");
 }
 
+/* The sheet of some tickets with right sums, then the others one by one. */
+static void fill(void)
+{
+    size_t e = any_list(list, plain.c, 128);
+    ref_sheet_write(FORMULA, plain.p, plain.c, list, 2 * e, sheet, sizeof sheet);
+    post_sheet(plain.p, list, e, sheet);
+    for (uint64_t i = 0; i < ROWS * plain.c; i++)
+        if (!plain.taken[i / plain.c][i % plain.c])
+            post_at_last(i / plain.c, i % plain.c);
+}
+
 /* A run filled without the book, with right sums alone. */
 static void fill_without(uint8_t *other)
 {
@@ -216,8 +231,7 @@ static void filled_history(uint64_t p, uint64_t c)
     }
     for (uint64_t i = 0; i < all; i++, start = (start + step) % all)
         CHECK(withdraw(p, c, start / c, start % c) == 0, "the withdrawal of a ticket that was posted");
-    for (uint64_t i = 0; i < all; i++)
-        post_at_last(i / c, i % c);
+    fill();
     fill_without(other);
     CHECK(memcmp(ledger, other, sizeof ledger) == 0, "a run with withdrawals is not filled as one without");
     CHECK(bbp_close(ledger, sizeof ledger, digits, 32) > 0, "a filled run has no digits");
