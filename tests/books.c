@@ -148,6 +148,11 @@ int damage_book(struct book *book, uint8_t *ledger, int kind)
     return number == 5 && !fitted ? UNSURE : number;
 }
 
+int unless_put_right(int fitted, int number, const uint8_t *ledger, const struct book *book)
+{
+    return !fitted && ref_book_in_order(ledger, book->bytes) ? UNSURE : number;
+}
+
 /* Sizes. */
 
 void every_book_size(void (*prepare)(void), int64_t (*compare)(void), size_t *book_len, int64_t answer)

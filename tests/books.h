@@ -27,6 +27,8 @@ void any_book(struct book *book, uint8_t *ledger);
 /* Damages as `struct suite` has them, kinds 0 to BOOK_KINDS - 1, of a ledger and its book. */
 enum { BOOK_KINDS = 11 };
 int damage_book(struct book *book, uint8_t *ledger, int kind);
+/* The number of another damage, before which the book fitted the ledger or not. Where it put that right, UNSURE. */
+int unless_put_right(int fitted, int number, const uint8_t *ledger, const struct book *book);
 
 /* A call on books of sizes around 0, around the book's own, and others: it gives `answer` at the book's own, else refusal 1. */
 void every_book_size(void (*prepare)(void), int64_t (*compare)(void), size_t *book_len, int64_t answer);

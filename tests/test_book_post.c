@@ -26,16 +26,24 @@ static void prepare(void)
     lend_rest();
 }
 
-static int damage(int kind)
+enum { POST_KINDS = ENTRY_KINDS + 3 };
+
+static int damage_post(int kind)
 {
-    if (kind < ENTRY_KINDS)
-        return damage_entry(&t, kind);
     switch (kind - ENTRY_KINDS) {
     case 0: sum_len = wrong_size(16); return 1;
     case 1: sum_len = 0; return 1;
     case 2: return mark_entry(&t);
-    default: return damage_book(&book, t.ledger, kind - ENTRY_KINDS - 3);
+    default: return damage_entry(&t, kind);
     }
+}
+
+static int damage(int kind)
+{
+    int fitted = ref_book_in_order(t.ledger, book.bytes);
+    if (kind >= POST_KINDS)
+        return damage_book(&book, t.ledger, kind - POST_KINDS);
+    return unless_put_right(fitted, damage_post(kind), t.ledger, &book);
 }
 
 /* Where the book fits the ledger, the answer and the ledger are those of a post without it. */
@@ -172,7 +180,7 @@ static void plain_examples(void)
 
 int main(int argc, char **argv)
 {
-    static const struct suite suite = {prepare, damage, ENTRY_KINDS + 3 + BOOK_KINDS, compare};
+    static const struct suite suite = {prepare, damage, POST_KINDS + BOOK_KINDS, compare};
     static const uint64_t counts[] = {1, 7, 8, 9, 256};
     start("book_post", argc, argv);
     try_cases();

@@ -20,7 +20,10 @@ static void prepare(void)
 
 static int damage(int kind)
 {
-    return kind < POSTING_KINDS ? damage_posting(&t, kind) : damage_book(&book, t.ledger, kind - POSTING_KINDS);
+    int fitted = ref_book_in_order(t.ledger, book.bytes);
+    if (kind >= POSTING_KINDS)
+        return damage_book(&book, t.ledger, kind - POSTING_KINDS);
+    return unless_put_right(fitted, damage_posting(&t, kind), t.ledger, &book);
 }
 
 static int in_order_together(void)

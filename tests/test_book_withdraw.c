@@ -34,15 +34,23 @@ static int clear_mark(void)
     return UNSURE;
 }
 
-static int damage(int kind)
+enum { WITHDRAW_KINDS = ENTRY_KINDS + 2 };
+
+static int damage_withdrawal(int kind)
 {
-    if (kind < ENTRY_KINDS)
-        return damage_entry(&t, kind);
     switch (kind - ENTRY_KINDS) {
     case 0: return unmark();
     case 1: return clear_mark();
-    default: return damage_book(&book, t.ledger, kind - ENTRY_KINDS - 2);
+    default: return damage_entry(&t, kind);
     }
+}
+
+static int damage(int kind)
+{
+    int fitted = ref_book_in_order(t.ledger, book.bytes);
+    if (kind >= WITHDRAW_KINDS)
+        return damage_book(&book, t.ledger, kind - WITHDRAW_KINDS);
+    return unless_put_right(fitted, damage_withdrawal(kind), t.ledger, &book);
 }
 
 /* The call against the reference. Ledger and book are left as the call leaves them, for a next one. */
@@ -229,7 +237,7 @@ static void null_and_huge_examples(void)
 
 int main(int argc, char **argv)
 {
-    static const struct suite suite = {prepare, damage, ENTRY_KINDS + 2 + BOOK_KINDS, compare};
+    static const struct suite suite = {prepare, damage, WITHDRAW_KINDS + BOOK_KINDS, compare};
     static const uint64_t counts[] = {1, 7, 8, 9, 256};
     start("book_withdraw", argc, argv);
     try_cases();
