@@ -6,8 +6,8 @@
  * the sums are compared all the same, so that equal work is timed. The engine
  * counts its squarings as it works, the C does not. Last come the quotes at the
  * last position, digits laid over each other, and the stack that a half takes.
- * Lines of check runs start with the word `check`; the calls that keep books are
- * timed by Bellard's.
+ * Lines of check runs start with the word `check`; calls on ledgers are timed by
+ * Bellard's. Calls by a book stand beside a copy of the book.
  */
 #define _POSIX_C_SOURCE 200809L
 
@@ -24,7 +24,9 @@
 #include "program.h"
 #include "ways.h"
 
-enum { BLOCKS = 256, LEDGERS = 64, QUOTES = 64, OVERLAPS = 64, MULTIPLICATIONS = 10000000, STACK = 1 << 20, UNTOUCHED = 0xA5 };
+enum { BLOCKS = 256, MULTIPLICATIONS = 10000000, STACK = 1 << 20, UNTOUCHED = 0xA5 };
+/* How many calls are timed together. */
+enum { LEDGERS = 64, QUOTES = 64, OVERLAPS = 64, WITHDRAWN = 64 };
 
 #if !defined WITH_gcc && !defined WITH_clang
 #error "bench/lanes.c is not compiled: neither gcc nor clang was found"
@@ -411,7 +413,81 @@ static void time_counts(void)
     }
 }
 
-static void compare_books(void)
+/* By a book at C = 256 that is full but for some tickets: each of these calls tests all of it. */
+
+static uint8_t book[BBP_BOOK_SIZE], copied[BBP_BOOK_SIZE], some_sheet[BBP_SHEET_SIZE(WITHDRAWN)];
+
+static void open_both(void)
+{
+    open_ledger();
+    memset(book, 0, sizeof book);
+}
+
+static void post_sheet_by_book(void)
+{
+    finished("book sheet post", bbp_book_sheet_post(ledger, sizeof ledger, book, sizeof book, sheet, sizeof sheet));
+}
+
+static void fill_book(void)
+{
+    open_both();
+    post_sheet_by_book();
+}
+
+/* The first tickets of row 3, as many as there are to be withdrawn. */
+static void withdraw_some(void)
+{
+    for (uint64_t i = 0; i < WITHDRAWN; i++)
+        finished("book withdraw", bbp_book_withdraw(ledger, sizeof ledger, book, sizeof book, 1, BLOCKS, 3, i));
+}
+
+static void fill_but_some(void)
+{
+    fill_book();
+    withdraw_some();
+}
+
+static void post_some(void)
+{
+    for (uint64_t i = 0; i < WITHDRAWN; i++)
+        finished("book post", bbp_book_post(ledger, sizeof ledger, book, sizeof book, 1, BLOCKS, 3, i, sums, 16));
+}
+
+static void post_some_as_sheet(void)
+{
+    finished("book sheet post", bbp_book_sheet_post(ledger, sizeof ledger, book, sizeof book, some_sheet, sizeof some_sheet));
+}
+
+/* Nothing of it may be left out by the compiler, which is told that the bytes are read and written elsewhere. */
+static void copy_book(void)
+{
+    for (int i = 0; i < WITHDRAWN; i++) {
+        memcpy(copied, book, sizeof book);
+        __asm__ volatile("" : : "r"(copied), "r"(book) : "memory");
+    }
+}
+
+static void print_by_copy(const char *what, double call, double copy)
+{
+    printf("%-52s %9.2f\n", what, call / copy);
+}
+
+static void compare_with_copy(void)
+{
+    finished("sheet write", bbp_sheet_write(1, BLOCKS, list + BBP_LIST_SIZE(3 * BLOCKS), BBP_LIST_SIZE(WITHDRAWN), some_sheet,
+                                            sizeof some_sheet));
+    fill_book();
+    double copy = time_calls("copying a book, 28,672 bytes", WITHDRAWN, nothing, copy_book);
+    double post = time_calls("posting one ticket by a nearly full book", WITHDRAWN, fill_but_some, post_some);
+    double as_sheet = time_calls("posting a sheet of 64 by a nearly full book", 1, fill_but_some, post_some_as_sheet);
+    double withdrawal = time_calls("withdrawing one ticket by a full book", WITHDRAWN, fill_book, withdraw_some);
+    time_calls("posting a sheet of 1,792 by an empty book", 1, open_both, post_sheet_by_book);
+    print_by_copy("posting one ticket by a book / copying the book", post, copy);
+    print_by_copy("posting a sheet of 64 by a book / copying the book", as_sheet, copy);
+    print_by_copy("withdrawing one ticket / copying the book", withdrawal, copy);
+}
+
+static void compare_ledgers(void)
 {
     for (uint64_t i = 0; i < BBP_ROWS * BLOCKS; i++)
         list[2 * i] = (uint8_t)i, list[2 * i + 1] = (uint8_t)(i / 256);
@@ -421,6 +497,7 @@ static void compare_books(void)
     time_calls("reading a sheet of 1,792 tickets", 1, nothing, read_sheet);
     compare_look();
     time_calls("closing a full ledger of C = 256", 1, nothing, close_ledger);
+    compare_with_copy();
 }
 
 static const struct kind *quoted;
@@ -522,7 +599,7 @@ int main(void)
     double cycle = measure_cycle();
     compare_runs(BELLARD, cycle);
     compare_halves(BELLARD);
-    compare_books();
+    compare_ledgers();
     compare_runs(CHECK, cycle);
     compare_halves(CHECK);
     time_quote(BELLARD);

@@ -4,9 +4,10 @@
  * with another block count, and the sums of another run; first of a Bellard run,
  * then the same of a check run, with the word `check` before its titles. A look
  * is there in the Bellard run alone. Then, of both in the same order, the
- * squarings of a ticket and its halves, and the quotes at the last position. Last
+ * squarings of a ticket and its halves, and the quotes at the last position. Then
  * come a closing of each kind, laid over each other, and some digits laid over one
- * of them.
+ * of them. Last is a Bellard run with a book: two tickets posted, one withdrawn and
+ * posted again.
  *
  * Every run that is opened has a block count that is a power of two. The kept
  * ledgers have not: they are made from the layout and not by opening.
@@ -263,6 +264,44 @@ static void print_overlaps(void)
     print_part("place of the part of F6A8885A at position 4 and the first of them", &some, &closing);
 }
 
+static uint8_t book[BBP_BOOK_SIZE];
+
+static void post_by_book(struct example *example, struct ticket ticket, const uint8_t *sum)
+{
+    finished("book post", bbp_book_post(example->ledger, BBP_LEDGER_SIZE, book, sizeof book, P, ticket.c, ticket.row,
+                                        ticket.block, sum, BBP_SUM_SIZE));
+}
+
+static int64_t withdraw(struct example *example, struct ticket ticket)
+{
+    return bbp_book_withdraw(example->ledger, BBP_LEDGER_SIZE, book, sizeof book, P, ticket.c, ticket.row, ticket.block);
+}
+
+static void print_both(const struct example *example, const char *title)
+{
+    print_ledger(example, title);
+    print_bytes(example, "its book", book, sizeof book);
+}
+
+/* The second ticket comes with sixteen bytes ff, which is not its sum. */
+static void print_books(struct example *example)
+{
+    const struct ticket first = {16, 3, 1}, second = {16, 3, 2};
+    uint8_t sum[BBP_SUM_SIZE], squarings[BBP_SQUARINGS_SIZE], wrong[BBP_SUM_SIZE];
+    memset(wrong, 255, sizeof wrong);
+    finished("open", bbp_open(P, first.c, example->ledger, BBP_LEDGER_SIZE));
+    finished("work", bbp_work(P, first.c, first.row, first.block, sum, sizeof sum, squarings, sizeof squarings));
+    post_by_book(example, first, sum);
+    post_by_book(example, second, wrong);
+    print_both(example, "ledger with two tickets posted by a book");
+    finished("book withdraw", withdraw(example, second));
+    print_both(example, "ledger after ticket (3, 2) is withdrawn");
+    printf("answer where it is withdrawn once more\n%" PRId64 "\n", withdraw(example, second));
+    finished("work", bbp_work(P, second.c, second.row, second.block, sum, sizeof sum, squarings, sizeof squarings));
+    post_by_book(example, second, sum);
+    print_both(example, "ledger after ticket (3, 2) is posted again");
+}
+
 int main(void)
 {
     for (int kind = 0; kind < KINDS; kind++)
@@ -270,6 +309,7 @@ int main(void)
     for (int kind = 0; kind < KINDS; kind++)
         print_charges(&examples[kind]);
     print_overlaps();
+    print_books(&examples[BELLARD]);
     end_output();
     return 0;
 }

@@ -81,6 +81,7 @@ static inline const char *meaning(int64_t answer)
     case BBP_REFUSED_DIGITS: return "digits not in their form, too many or none, or their position out of range";
     case BBP_REFUSED_APART: return "digits that share no position";
     case BBP_REFUSED_DIFFERENT: return "digits that differ at a position of both";
+    case BBP_REFUSED_UNPOSTED: return "ticket to withdraw not marked";
     default: return "an answer that is not in the refusal table";
     }
 }

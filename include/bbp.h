@@ -11,12 +11,17 @@
  * ledger with every ticket posted is closed: that gives the hexadecimal digits
  * of pi from position p on that the run settles.
  *
+ * Beside the ledger of a Bellard run a book can be kept, which has the sum of
+ * each posted ticket. Posted by the book, a ticket can be withdrawn again, where
+ * its sum is found to be wrong, and then be posted anew ("Books", below).
+ *
  * Work is charged by squarings: working a ticket or a half hands back how many
  * it made, and a quote gives the same number beforehand, at once.
  *
- * There are two kinds of runs, with twenty-seven calls: thirteen for Bellard's
- * runs, twelve for check runs, which do the same over another formula, and two
- * for digits, whatever run gave them. bbp_look is for Bellard's runs alone.
+ * There are two kinds of runs, with thirty calls: sixteen for Bellard's runs,
+ * twelve for check runs, which do the same over another formula, and two for
+ * digits, whatever run gave them. bbp_look and the three calls by a book are for
+ * Bellard's runs alone.
  *
  *                                  Bellard's run   check run
  *   calls and constants            bbp_, BBP_      bbp_check_, BBP_CHECK_
@@ -80,7 +85,7 @@ extern "C" {
 
 /* The version. BBP_VERSION grows from each version to the next, so that #if can compare it. */
 #define BBP_VERSION_MAJOR 4
-#define BBP_VERSION_MINOR 1
+#define BBP_VERSION_MINOR 2
 #define BBP_VERSION_PATCH 0
 #define BBP_VERSION (1000000 * BBP_VERSION_MAJOR + 1000 * BBP_VERSION_MINOR + BBP_VERSION_PATCH)
 #define BBP_VERSION_STRING \
@@ -104,6 +109,7 @@ extern "C" {
 #define BBP_TOTAL_SIZE 16         /* the total of a look, exactly */
 #define BBP_LEDGER_SIZE 352       /* a ledger, exactly: 16, and 48 for each row */
 #define BBP_CHECK_LEDGER_SIZE 208
+#define BBP_BOOK_SIZE 28672       /* a book, exactly: 16 for each of 256 blocks of each row; check runs have none */
 #define BBP_LIST_MAX 3584         /* a list to be worked, at most: 2 for each of 256 tickets of each row */
 #define BBP_CHECK_LIST_MAX 2048
 #define BBP_SHEET_MAX 35856       /* a sheet to read, post or look at, at most: 16, and 20 for each of these tickets */
@@ -115,6 +121,9 @@ extern "C" {
 #define BBP_ROW_SUM_AT(row) (16 + 16 * (row))
 #define BBP_ROW_MARKS_AT(row) (128 + 32 * (row))
 #define BBP_CHECK_ROW_MARKS_AT(row) (80 + 32 * (row))
+
+/* Where the sum that a ticket keeps, 16 bytes, stands in a book: a row, and a block 0 to 255, whatever C is. */
+#define BBP_BOOK_AT(row, block) (16 * (256 * (row) + (block)))
 
 /* The length of a sheet of e tickets, and of its list and its sums when read. */
 #define BBP_SHEET_SIZE(e) (16 + 20 * (e))
@@ -129,11 +138,11 @@ extern "C" {
  * compares -answer with these.
  */
 enum bbp_refusal {
-    /* A slice of the wrong size: a ledger not of BBP_LEDGER_SIZE bytes, a sum, squarings or a total not
-       of 16, the digits of a closing not of 32, a part not of 24; a list to be worked of odd length or over
-       BBP_LIST_MAX; a sheet to read, post or look at under 16 or over BBP_SHEET_MAX; a sheet to write under
-       16 + 20e; read outputs under 2e or 16e, where e is the count in the sheet's head. Here and below, a
-       check call goes by the BBP_CHECK_ constants. */
+    /* A slice of the wrong size: a ledger not of BBP_LEDGER_SIZE bytes, a book not of BBP_BOOK_SIZE, a sum,
+       squarings or a total not of 16, the digits of a closing not of 32, a part not of 24; a list to be worked
+       of odd length or over BBP_LIST_MAX; a sheet to read, post or look at under 16 or over BBP_SHEET_MAX; a
+       sheet to write under 16 + 20e; read outputs under 2e or 16e, where e is the count in the sheet's head.
+       Here and below, a check call goes by the BBP_CHECK_ constants. */
     BBP_REFUSED_SIZE = 1,
     /* The position or the block count, of the call or in the sheet's head, is out of range. */
     BBP_REFUSED_RANGE = 2,
@@ -143,7 +152,7 @@ enum bbp_refusal {
     /* A row not below BBP_ROWS, or a block not below the block count of the call or of the sheet. */
     BBP_REFUSED_TICKET = 4,
     /* The ledger is not in order: p or C out of range, one of its 6 zero bytes not zero, or a mark
-       set at C or above. */
+       set at C or above. In a call by a book also: the book does not fit the ledger (below, "Books"). */
     BBP_REFUSED_LEDGER = 5,
     /* The position or the block count of the ticket or sheet is not the ledger's. */
     BBP_REFUSED_RUN = 6,
@@ -159,7 +168,9 @@ enum bbp_refusal {
     /* The two strings share no position. */
     BBP_REFUSED_APART = 11,
     /* The two strings have different digits at a position that both hold. */
-    BBP_REFUSED_DIFFERENT = 12
+    BBP_REFUSED_DIFFERENT = 12,
+    /* Withdrawing, and the ticket is not marked. */
+    BBP_REFUSED_UNPOSTED = 13
 };
 
 /*
@@ -304,9 +315,80 @@ int64_t bbp_check_sheet_post(uint8_t *ledger, size_t ledger_len, const uint8_t *
  * 7. A look at a sheet of no tickets gives the total and the unmarked tickets
  * that the ledger has now. Check runs have no such call, and a check ledger is
  * refused with 1.
+ *
+ * A look has no book. Where the ledger and its book are in order together (below,
+ * "Books"), a look is refused as bbp_book_sheet_post would be, or gives the total
+ * and the unmarked tickets of the ledger which that call would leave. Otherwise
+ * the two may differ, by 1 where the book has another size, and by 5 where it does
+ * not fit the ledger: a look tells neither.
  */
 int64_t bbp_look(const uint8_t *ledger, size_t ledger_len, const uint8_t *sheet, size_t sheet_len,
                  uint8_t *total, size_t total_len);
+
+/*
+ * Books. A book has 16 bytes for each ticket that a Bellard run can have, at
+ * BBP_BOOK_AT(row, block), whatever the block count: the sum that the ticket was
+ * posted with while it is marked in the ledger, and zero while it is not. It has
+ * no head: a book is of the ledger that it is lent with, and whoever keeps
+ * several has to keep them apart.
+ *
+ * To start, lend a fresh ledger, as bbp_open leaves it, and a book of
+ * BBP_BOOK_SIZE zero bytes. After that the two go from call to call together, as
+ * each left them.
+ *
+ * The calls by a book refuse with 5 unless ledger and book are in order together:
+ * the ledger is in order by itself; in every row the 256 sums that the book keeps
+ * add up, modulo 2^128, to the row sum in the ledger; and the book is zero at
+ * every place whose mark is not set, the places of blocks at C and above among
+ * them. A marked ticket may keep sixteen zero bytes. What is tested is the ledger
+ * and the book as they are lent, before anything is posted.
+ *
+ * The calls without a book know nothing of it. bbp_post or bbp_sheet_post onto a
+ * ledger that has a book marks tickets for which the book keeps zero: from there
+ * on the two are not in order together, and every call by the book is refused
+ * with 5, unless the sums so posted to each row add up to 0 modulo 2^128. So a
+ * ledger that is kept with a book is posted to by the book alone. Closing needs
+ * the ledger and no book: bbp_close, bbp_look and the closing program take a ledger
+ * that was posted to by a book as any other.
+ *
+ * Testing a book reads all of it, once in each call. A refused call changes no
+ * byte of the ledger and none of the book. Check runs have no books.
+ */
+
+/*
+ * Posts one ticket with the offered sum as bbp_post does, and writes the sum into
+ * the book as well: the 16 bytes at BBP_BOOK_AT(row, block) become those of
+ * `sum`. Answers 0, or refusal 1 (ledger_len not BBP_LEDGER_SIZE, book_len not
+ * BBP_BOOK_SIZE, sum_len not 16), 2, 4, 5 (also by the book), 6 or 7.
+ */
+int64_t bbp_book_post(uint8_t *ledger, size_t ledger_len, uint8_t *book, size_t book_len, uint64_t p, uint64_t c,
+                      uint64_t row, uint64_t block, const uint8_t *sum, size_t sum_len);
+
+/*
+ * Posts every ticket of a sheet, or none, as bbp_sheet_post does, and writes each
+ * sum to its ticket's place in the book as well. Answers 0, or refusal 1
+ * (ledger_len not BBP_LEDGER_SIZE, book_len not BBP_BOOK_SIZE, sheet_len under 16
+ * or over BBP_SHEET_MAX), 2, 3, 4, 5 (also by the book), 6 or 7. A sheet of no
+ * tickets changes nothing and is refused alike. The sheet has to be of a Bellard
+ * run: no refusal tells one of a check run.
+ */
+int64_t bbp_book_sheet_post(uint8_t *ledger, size_t ledger_len, uint8_t *book, size_t book_len,
+                            const uint8_t *sheet, size_t sheet_len);
+
+/*
+ * Withdraws one ticket: takes the sum that the book keeps for it out of its row's
+ * sum modulo 2^128, clears its mark, and zeroes its 16 bytes of the book. So a
+ * post by the book and its withdrawal leave ledger and book as they would be
+ * without the two, whatever else was posted or withdrawn in between. The ticket
+ * can be posted again, with any sum.
+ *
+ * Answers 0, or refusal 1 (ledger_len not BBP_LEDGER_SIZE, book_len not
+ * BBP_BOOK_SIZE), 2, 4, 5 (also by the book), 6, or 13 if the ticket is not
+ * marked. A ledger from which a ticket was withdrawn is not closed before that
+ * ticket is posted again: refusal 8.
+ */
+int64_t bbp_book_withdraw(uint8_t *ledger, size_t ledger_len, uint8_t *book, size_t book_len, uint64_t p, uint64_t c,
+                          uint64_t row, uint64_t block);
 
 /*
  * Closes a ledger: writes the d digits that it settles, d from 1 to 32, as

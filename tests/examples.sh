@@ -1,13 +1,14 @@
 #!/usr/bin/env bash
-# examples.sh MINIMAL ACCEPTANCE - the examples, run: digits of pi at 1 and 1,000, refusals, arguments that are no
-# numbers, output that cannot be written, sheets looked at before they are posted, tickets worked by halves, squarings
+# examples.sh MINIMAL WITHDRAWAL ACCEPTANCE - the examples, run: digits of pi at 1 and 1,000, also with a ticket withdrawn
+# and posted again, refusals, arguments that are no numbers, output that cannot be written, sheets looked at before they are posted, tickets worked by halves, squarings
 # quoted and made, check runs beside the others, ledgers of both kinds kept, also in place of older ones and without
 # standard descriptors, and their rows shown, also of block counts that are no powers of two, and the bytes that
 # docs/FORMATS.md shows.
 # ENGINE is the library that they are built with.
 set -u
 minimal=$1
-acceptance=$2
+withdrawal=$2
+acceptance=$3
 name=examples
 . "$(dirname "$0")/checks.sh"
 ledger=$scratch/ledger
@@ -20,6 +21,8 @@ out_of_range="refused 2: position or block count out of range"
 wrong_size="a slice of the wrong size"
 
 same minimal "$("$minimal")" "${line##* }"
+prints 0 "$line" "$withdrawal"
+same "what withdrawal says" "$said" "withdrawn: row 3, block 2"
 prints 0 "$first_line" "$acceptance" 1
 prints 0 "$first_line" "$acceptance" 1 1
 prints 0 "$line" "$acceptance" 1000 2
@@ -52,6 +55,7 @@ done
 same "ledgers kept from arguments that are refused" "$(ls "$ledger" "$ledger.check" 2>/dev/null)" ""
 
 unwritable "$minimal"
+unwritable "$withdrawal"
 unwritable "$acceptance" 1000 2
 unwritable "$acceptance" --halves 1000 2
 
@@ -62,6 +66,17 @@ done
 wrapped refusing examples/minimal.c "$(instead bbp_close -12)"
 ends 1 "$scratch/refusing"
 same "what minimal says of a number of two digits" "$said" "refused 12"
+for call in open sheet_write book_sheet_post work book_post book_withdraw close; do
+    refusing examples/withdrawal.c bbp_$call
+    same "what withdrawal says of $call" "${said##*$'\n'}" "${call//_/ }: refused 7: ticket marked already"
+done
+wrapped refusing examples/withdrawal.c "$(instead bbp_book_withdraw -13)"
+ends 1 "$scratch/refusing"
+same "what withdrawal says of 13" "${said##*$'\n'}" "book withdraw: refused 13: ticket to withdraw not marked"
+# The wrong sum shows in the digits where its ticket is neither withdrawn nor posted again.
+wrapped kept examples/withdrawal.c "$(instead bbp_book_withdraw 0)" \
+    "$(instead bbp_book_post "row == 3 && block == 2 ? 0 : $(call bbp_book_post)")"
+prints 0 "1000 29 B${line##* 3}" "$scratch/kept"
 for call in open quote work post sheet_write sheet_read look sheet_post close; do
     refusing examples/acceptance.c bbp_$call 1000 4
     same "what acceptance says of $call" "$said" "${call/_/ }: refused 7: ticket marked already"

@@ -102,6 +102,9 @@ in_function bbp_sheet_read "s/sheet \.entry\)\) \(now \(list/list .entry)) (now 
     "arguments (now (list .entry)) (now (sheet .entry)) (now (sums .entry)), not"
 in_function bbp_post "s/ row block/ block row/" "arguments (now (ledger .entry)) p c block row "
 in_function bbp_post "s/ row block/ row 0/" "arguments (now (ledger .entry)) p c row 0 "
+in_function bbp_book_withdraw "s/ledger \.entry\)\) \(now \(book/book .entry)) (now (ledger/" \
+    "arguments (now (book .entry)) (now (ledger .entry)) p c row block, not"
+in_function bbp_book_withdraw "s/ ∷ now \(book \.exit\)//" "slices (now (ledger .exit) ∷ []) [] ⌝, not"
 in_function bbp_overlap "s/ «first_p»/ first_p/" "arguments (now (first .entry)) first_p (now (second .entry)) «second_p», not"
 in_function bbp_overlap_part "s/«second_p»/«first_p»/" "arguments (now (first .entry)) «first_p» (now (second .entry)) «first_p» "
 in_function bbp_overlap_part "s/ \(now \(second \.entry\)\)//" "arguments (now (first .entry)) «first_p» «second_p» (now "

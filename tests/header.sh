@@ -12,6 +12,7 @@ cat >"$1/header.c" <<'END'
     char name##_marks[prefix##ROW_MARKS_AT(prefix##ROWS) == prefix##LEDGER_SIZE ? 1 : -1];
 FITS(bellard, BBP_)
 FITS(check, BBP_CHECK_)
+char book[BBP_BOOK_AT(BBP_ROWS, 0) == BBP_BOOK_SIZE ? 1 : -1];
 END
 cp "$1/header.c" "$1/header.cc"
 strict="-Wall -Wextra -Werror -pedantic -Iinclude -c -o /dev/null"

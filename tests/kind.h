@@ -34,7 +34,8 @@ enum {
     LEDGER_SIZE = OF_KIND(352, 208),
     OTHER_LEDGER_SIZE = OF_KIND(208, 352),
     LIST_MAX = OF_KIND(3584, 2048),
-    SHEET_MAX = OF_KIND(35856, 20496)
+    SHEET_MAX = OF_KIND(35856, 20496),
+    BOOK_SIZE = 28672 /* of Bellard's runs alone */
 };
 
 /*
@@ -49,6 +50,7 @@ enum { WRAPPING_BLOCK = OF_KIND(39, 31) };
 #define MARKS_AT(row) (OF_KIND(128, 80) + 32 * (row))
 #define SHEET_SIZE(e) (16 + 20 * (e))
 #define PAIR(row, block) (256 * (row) + (block))
+#define BOOK_AT(row, block) (16 * PAIR(row, block))
 
 /* Compile only where the header has the same numbers. */
 typedef char limits_of_header[CONSTANT(MAX_POSITION) == LAST_POSITION && CONSTANT(ROWS) == ROWS &&
@@ -56,8 +58,9 @@ typedef char limits_of_header[CONSTANT(MAX_POSITION) == LAST_POSITION && CONSTAN
 typedef char sizes_of_header[CONSTANT(LEDGER_SIZE) == LEDGER_SIZE && CONSTANT(LIST_MAX) == LIST_MAX &&
                              CONSTANT(SHEET_MAX) == SHEET_MAX && BBP_SUM_SIZE == 16 && BBP_DIGITS_SIZE == 32 &&
                              BBP_TOTAL_SIZE == 16 && BBP_SQUARINGS_SIZE == 16 && BBP_OVERLAP_MAX == 30 &&
-                             BBP_PART_SIZE == 24 ? 1 : -1];
-typedef char places_of_header[CONSTANT(ROW_MARKS_AT(3)) == MARKS_AT(3) && BBP_ROW_SUM_AT(3) == SUM_AT(3) ? 1 : -1];
+                             BBP_PART_SIZE == 24 && BBP_BOOK_SIZE == BOOK_SIZE ? 1 : -1];
+typedef char places_of_header[CONSTANT(ROW_MARKS_AT(3)) == MARKS_AT(3) && BBP_ROW_SUM_AT(3) == SUM_AT(3) &&
+                              BBP_BOOK_AT(3, 5) == BOOK_AT(3, 5) ? 1 : -1];
 typedef char forms_of_header[BBP_SHEET_SIZE(5) == SHEET_SIZE(5) && BBP_LIST_SIZE(5) == 10 && BBP_SUMS_SIZE(5) == 80 &&
                              BBP_PAIR(3, 5) == PAIR(3, 5) ? 1 : -1];
 

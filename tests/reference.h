@@ -1,11 +1,12 @@
 /*
  * An implementation of the twelve calls of each kind of runs, of the look of
- * Bellard's runs and of the two calls for digits, written from document 01 and
- * slips 1, 3, 4, 5, 6, 7 and 8 of document 02 alone, for comparison. It prefers
- * the obvious to the fast: remainders by `%` on 128 bits, every condition of the
- * refusal table evaluated by itself, terms added from first to last, a look by
- * posting onto a copy, the squarings of a quote by looking for the terms at which
- * they change, every digit of one string put beside every digit of the other.
+ * Bellard's runs and their three calls by a book, and of the two calls for digits,
+ * written from document 01 and slips 1 and 3 to 9 of document 02 alone, for
+ * comparison. It prefers the obvious to the fast: remainders by `%` on 128 bits,
+ * every condition of the refusal table evaluated by itself, terms added from first
+ * to last, a look by posting onto a copy, the squarings of a quote by looking for
+ * the terms at which they change, every digit of one string put beside every digit
+ * of the other, a withdrawal by one subtraction.
  */
 #ifndef REFERENCE_H
 #define REFERENCE_H
@@ -47,6 +48,14 @@ int64_t ref_look(ref_formula *f, const uint8_t *ledger, size_t ledger_len, const
                  uint8_t *total, size_t total_len);
 int64_t ref_close(ref_formula *f, const uint8_t *ledger, size_t ledger_len, uint8_t *digits, size_t digits_len);
 
+/* The calls by a book, which are of Bellard's runs alone. */
+int64_t ref_book_post(uint8_t *ledger, size_t ledger_len, uint8_t *book, size_t book_len, uint64_t p, uint64_t c,
+                      uint64_t row, uint64_t block, const uint8_t *sum, size_t sum_len);
+int64_t ref_book_sheet_post(uint8_t *ledger, size_t ledger_len, uint8_t *book, size_t book_len, const uint8_t *sheet,
+                            size_t sheet_len);
+int64_t ref_book_withdraw(uint8_t *ledger, size_t ledger_len, uint8_t *book, size_t book_len, uint64_t p, uint64_t c,
+                          uint64_t row, uint64_t block);
+
 /* The calls for digits, which have no formula. */
 int64_t ref_overlap(const uint8_t *first, size_t first_len, uint64_t first_p, const uint8_t *second, size_t second_len,
                     uint64_t second_p);
@@ -60,7 +69,7 @@ int64_t ref_overlap_part(const uint8_t *first, size_t first_len, uint64_t first_
  */
 typedef unsigned ref_refusals;
 /* The last number of the table. */
-enum { REF_LAST_REFUSAL = 12 };
+enum { REF_LAST_REFUSAL = 13 };
 /* The working calls, of a ticket and of its halves, are refused alike, and so are the quotes. */
 ref_refusals ref_work_refusals(ref_formula *f, uint64_t p, uint64_t c, uint64_t row, uint64_t block, size_t sum_len,
                                size_t squarings_len);
@@ -78,6 +87,12 @@ ref_refusals ref_sheet_post_refusals(ref_formula *f, const uint8_t *ledger, size
 ref_refusals ref_look_refusals(ref_formula *f, const uint8_t *ledger, size_t ledger_len, const uint8_t *sheet,
                                size_t sheet_len, size_t total_len);
 ref_refusals ref_close_refusals(ref_formula *f, const uint8_t *ledger, size_t ledger_len, size_t digits_len);
+ref_refusals ref_book_post_refusals(const uint8_t *ledger, size_t ledger_len, const uint8_t *book, size_t book_len,
+                                    uint64_t p, uint64_t c, uint64_t row, uint64_t block, size_t sum_len);
+ref_refusals ref_book_sheet_post_refusals(const uint8_t *ledger, size_t ledger_len, const uint8_t *book, size_t book_len,
+                                          const uint8_t *sheet, size_t sheet_len);
+ref_refusals ref_book_withdraw_refusals(const uint8_t *ledger, size_t ledger_len, const uint8_t *book, size_t book_len,
+                                        uint64_t p, uint64_t c, uint64_t row, uint64_t block);
 ref_refusals ref_overlap_refusals(const uint8_t *first, size_t first_len, uint64_t first_p, const uint8_t *second,
                                   size_t second_len, uint64_t second_p);
 ref_refusals ref_overlap_part_refusals(const uint8_t *first, size_t first_len, uint64_t first_p, const uint8_t *second,
@@ -108,7 +123,7 @@ ref_terms_of ref_whole, ref_lower_half, ref_upper_half;
 /* The squarings of these terms, which may be too many to be counted one by one. */
 ref_u128 ref_range_squarings(ref_formula *f, uint64_t p, uint64_t row, ref_range terms);
 
-/* Little-endian numbers, and the ledger, for the files of the quotes and of the closing. */
+/* Little-endian numbers, and the ledger, for the files of the quotes, of the closing and of the book. */
 uint64_t ref_load(const uint8_t *at, size_t bytes);
 ref_u128 ref_load_sum(const uint8_t *at);
 void ref_store_sum(uint8_t *at, ref_u128 sum);
@@ -119,5 +134,7 @@ int ref_marked(ref_formula *f, const uint8_t *ledger, uint64_t row, uint64_t blo
 ref_u128 ref_row_sum(const uint8_t *ledger, uint64_t row);
 /* The sum of the row sums modulo 2^128. */
 ref_u128 ref_total(ref_formula *f, const uint8_t *ledger);
+/* Whether a book of its size fits a ledger of its size: its sums add up to the row sums, and it is zero where no mark is set. */
+int ref_book_in_order(const uint8_t *ledger, const uint8_t *book);
 
 #endif

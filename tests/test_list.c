@@ -1,53 +1,21 @@
 /*
- * Lists of posts of both kinds from an opening on, against a plain ledger: a
- * set of tickets and a sum for each row, with no bytes of a ledger (document 01,
- * The ledger; document 02, slips 1 and 4). After each post the ledger's bytes are
- * compared with what it holds.
+ * Lists of posts of both kinds from an opening on, against a plain ledger, which
+ * has no bytes of a ledger (document 01, The ledger; document 02, slips 1 and 4).
+ * After each post the ledger's bytes are compared with what it holds.
  */
-#include "common.h"
+#include "plain.h"
 
 #include <inttypes.h>
 #include <string.h>
 
-static struct {
-    uint64_t p, c;
-    uint8_t taken[ROWS][256];
-    ref_u128 sums[ROWS];
-} plain;
-
+static struct plain plain;
 static uint8_t ledger[LEDGER_SIZE];
-
-static void plain_bytes(uint8_t *bytes)
-{
-    memset(bytes, 0, LEDGER_SIZE);
-    put(bytes, 8, plain.p);
-    put(bytes + 8, 2, plain.c);
-    for (uint64_t row = 0; row < ROWS; row++) {
-        set_row_sum(bytes, row, plain.sums[row]);
-        for (uint64_t block = 0; block < 256; block++)
-            set_mark(bytes, row, block, plain.taken[row][block]);
-    }
-}
 
 static void compare_bytes(const char *after)
 {
     uint8_t bytes[LEDGER_SIZE];
-    plain_bytes(bytes);
+    plain_ledger(&plain, bytes);
     CHECK(memcmp(bytes, ledger, sizeof ledger) == 0, "the ledger is not the plain ledger after %s", after);
-}
-
-static void take(uint64_t row, uint64_t block, const uint8_t *sum)
-{
-    plain.taken[row][block] = 1;
-    plain.sums[row] += ref_load_sum(sum);
-}
-
-/* The plain ledger's answer to a ticket in range. */
-static int plain_answer(uint64_t p, uint64_t c, uint64_t row, uint64_t block)
-{
-    if (p != plain.p || c != plain.c)
-        return -6;
-    return plain.taken[row][block] ? -7 : 0;
 }
 
 static void post_one(void)
@@ -57,11 +25,11 @@ static void post_one(void)
     any_bytes(sum, 16);
     if (below(10) == 0 && c < 256)
         c++;
-    int wanted = plain_answer(p, c, row, block);
+    int wanted = plain_answer(&plain, p, c, row, block);
     CHECK(CALL(post)(ledger, sizeof ledger, p, c, row, block, sum, 16) == wanted,
           "post: the answer is not the plain ledger's");
     if (wanted == 0)
-        take(row, block, sum);
+        take(&plain, row, block, sum);
     compare_bytes("a post");
 }
 
@@ -77,33 +45,24 @@ static void post_out_of_table(void)
     compare_bytes("posts out of the table");
 }
 
-static int sheet_answer(uint64_t p, const uint8_t *list, size_t e)
-{
-    for (size_t i = 0; i < e; i++)
-        if (p == plain.p && plain.taken[list[2 * i + 1]][list[2 * i]])
-            return -7;
-    return p == plain.p ? 0 : -6;
-}
-
 static void post_sheet(uint64_t chance)
 {
     static uint8_t list[LIST_MAX], sheet[SHEET_MAX];
     uint64_t p = below(10) == 0 ? plain.p % 1000 + 1 : plain.p;
     size_t e = any_list(list, plain.c, chance);
     size_t len = any_sheet(sheet, p, plain.c, list, e);
-    int wanted = sheet_answer(p, list, e);
+    int wanted = plain_list_answer(&plain, p, list, e);
     CHECK(CALL(sheet_post)(ledger, sizeof ledger, sheet, len) == wanted,
           "sheet post: the answer is not the plain ledger's");
-    for (size_t i = 0; wanted == 0 && i < e; i++)
-        take(list[2 * i + 1], list[2 * i], sheet + 16 + 4 * e + 16 * i);
+    if (wanted == 0)
+        take_list(&plain, list, e, sheet + 16 + 4 * e);
     compare_bytes("a sheet post");
 }
 
 static void one_list(void)
 {
-    memset(&plain, 0, sizeof plain);
-    plain.p = any_position();
-    plain.c = any_blocks();
+    uint64_t p = any_position();
+    open_plain(&plain, p, any_blocks());
     any_bytes(ledger, sizeof ledger);
     CHECK(CALL(open)(plain.p, plain.c, ledger, sizeof ledger) == 0, "opening is refused");
     compare_bytes("opening");

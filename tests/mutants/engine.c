@@ -1,9 +1,9 @@
 /*
  * A stand-in for the engine, in C: the twelve calls of both kinds of runs, the
- * look of Bellard's runs and the two calls for digits, by Montgomery arithmetic
- * and early returns, a look without a copy of the ledger, quotes by quotients,
- * and shared positions by where two strings start and end. It shares no code with
- * the reference.
+ * look and the calls by a book of Bellard's runs, and the two calls for digits, by
+ * Montgomery arithmetic and early returns, a look without a copy of the ledger,
+ * quotes by quotients, shared positions by where two strings start and end, and
+ * row sums made anew of what a book keeps. It shares no code with the reference.
  * It is right unless the environment variable MUTANT names a number; then it is
  * wrong in the one way that WRONG(number) marks. tests/mutants/run.sh shows that
  * the tests pass on the right one and fail on each wrong one.
@@ -1467,7 +1467,432 @@ static int64_t overlap(const string *first, const string *second)
     return WRONG(376) && answer == 0 ? (int64_t)laid_over(first, second).count : answer;
 }
 
-/* The calls of bbp.h: twelve for each kind of runs, one for Bellard's runs alone, and two for digits. */
+/* Books: for each ticket 16 bytes, the sum that it was posted with, and zero while it is not marked. */
+
+enum { BOOK = 28672, BLOCKS = 256 };
+
+/* A ledger and its book, as they are lent. */
+typedef struct {
+    uint8_t *ledger;
+    size_t ledger_len;
+    uint8_t *book;
+    size_t book_len;
+} booked;
+
+static uint8_t *kept_at(const booked *b, uint64_t row, uint64_t block)
+{
+    if (WRONG(378))
+        return b->book + 16 * (bellard.rows * block + row);
+    if (WRONG(379))
+        return b->book + 16 * ((load(b->ledger + 8, 2) * row + block) % (BOOK / 16));
+    return b->book + 16 * (BLOCKS * (WRONG(380) ? bellard.rows - 1 - row : row) + block);
+}
+
+/* What a row keeps, added up modulo 2^128: the bytes of one place over each other, then carried from the lowest on. */
+static void add_kept(const booked *b, uint64_t row, uint8_t *sum)
+{
+    uint32_t columns[16] = {0}, carry = 0;
+    for (uint64_t block = 0; block < BLOCKS; block++) {
+        const uint8_t *kept = kept_at(b, row, block);
+        for (int i = 0; i < 16; i++)
+            columns[i] += kept[i];
+    }
+    for (int i = 0; i < 16; i++, carry >>= 8) {
+        carry = columns[i] + (WRONG(492) && i == 8 ? 0 : carry);
+        sum[i] = (uint8_t)carry;
+    }
+    if (WRONG(493) && carry > 0)
+        memset(sum, 255, 16);
+}
+
+/* Up to 32 bytes. */
+static int is_zero(const uint8_t *at, size_t len)
+{
+    static const uint8_t zeros[32];
+    return memcmp(at, zeros, len) == 0;
+}
+
+/* Refusal 5 by the book: row sums that what is kept does not add up to, and what is kept without a mark. */
+
+static int is_off(const formula *f, const booked *b, uint64_t row)
+{
+    uint8_t sum[16];
+    size_t from = WRONG(381) ? 8 : 0, to = WRONG(382) ? 8 : 16;
+    add_kept(b, row, sum);
+    return memcmp(sum + from, b->ledger + sum_at(f, row) + from, to - from) != 0;
+}
+
+static int total_is_off(const formula *f, const booked *b)
+{
+    uint8_t sum[16];
+    u128 total = 0;
+    for (uint64_t row = 0; row < f->rows; row++) {
+        add_kept(b, row, sum);
+        total += load_sum(sum);
+    }
+    return total != total_of(f, b->ledger);
+}
+
+static int has_mark(const formula *f, const booked *b, uint64_t row)
+{
+    return !is_zero(b->ledger + mark_at(f, row, 0), 32);
+}
+
+static int has_stray(const formula *f, const booked *b, uint64_t row)
+{
+    uint64_t c = load(b->ledger + 8, 2), first = WRONG(383) ? 1 : WRONG(384) ? c : 0;
+    uint64_t end = WRONG(385) ? BLOCKS - 1 : WRONG(386) && c < BLOCKS ? c : BLOCKS;
+    size_t from = WRONG(387) ? 8 : WRONG(388) ? 15 : 0, to = WRONG(389) ? 8 : WRONG(390) ? 1 : 16;
+    for (uint64_t block = first; block < end; block++) {
+        int marked = is_marked(f, b->ledger, row, block), zero = is_zero(kept_at(b, row, block) + from, to - from);
+        if ((!marked && !zero) || (WRONG(391) && marked && zero))
+            return 1;
+    }
+    return 0;
+}
+
+static int bad_book(const formula *f, const booked *b)
+{
+    if (WRONG(392))
+        return 0;
+    for (uint64_t row = WRONG(393); row < f->rows - WRONG(394); row++) {
+        if (WRONG(395) && !has_mark(f, b, row))
+            continue;
+        if (!WRONG(396) && !WRONG(398) && is_off(f, b, row))
+            return 1;
+        if (!WRONG(397) && has_stray(f, b, row))
+            return 1;
+    }
+    return WRONG(398) && total_is_off(f, b);
+}
+
+/* Sizes. */
+
+static int bad_book_size(const booked *b)
+{
+    size_t len = output_length(399, b->book_len);
+    if ((WRONG(400) && len == BOOK - 1) || (WRONG(401) && len == BOOK + 1) || (WRONG(402) && len > BOOK))
+        return 0;
+    return (len != BOOK && !WRONG(403)) || unaligned(404, b->book);
+}
+
+/* Refusals 5 and 6 and the one by the marks, 7 or 13, in this order. `last` is what the marks say, or 0. */
+static int64_t bad_state(const formula *f, const booked *b, uint64_t p, uint64_t c, int64_t last)
+{
+    int other = (!WRONG(405) && load(b->ledger, 8) != p) || (!WRONG(406) && load(b->ledger + 8, 2) != c);
+    int own = !WRONG(407) && bad_ledger(f, b->ledger), by_book = bad_book(f, b);
+    if (!own && !other && last == (WRONG(408) ? -13 : WRONG(409) ? -7 : 1))
+        return last;
+    if (!own && !by_book && last == (WRONG(410) ? -13 : WRONG(411) ? -7 : 1))
+        return last;
+    if (WRONG(412) && !own && other)
+        return -6;
+    if (own || by_book)
+        return WRONG(413) && !own ? -1 : -5;
+    return other ? -6 : last;
+}
+
+/* What wrong engines write where they refuse. */
+
+static void repair(const formula *f, const booked *b)
+{
+    for (uint64_t row = 0; row < f->rows; row++) {
+        if (WRONG(414))
+            add_kept(b, row, b->ledger + sum_at(f, row));
+        for (uint64_t block = 0; block < BLOCKS && WRONG(415); block++)
+            if (!is_marked(f, b->ledger, row, block))
+                memset(kept_at(b, row, block), 0, 16);
+    }
+}
+
+static void write_both(const formula *f, const booked *b, int64_t answer)
+{
+    if (answer == -5)
+        repair(f, b);
+    if ((WRONG(416) && answer == -5) || (WRONG(417) && answer == -6) || (WRONG(418) && answer == -7) ||
+        (WRONG(419) && answer == -4) || (WRONG(420) && answer == -2))
+        memset(b->book, 0, BOOK);
+}
+
+/* One ticket. */
+
+typedef struct {
+    uint64_t p, c, row, block;
+} named;
+
+/* Refusals 2 and 4, and those of wrong engines in their place. */
+static int64_t bad_named(const formula *f, const booked *b, const named *t)
+{
+    uint64_t c = WRONG(421) ? load(b->ledger + 8, 2) : t->c;
+    int outside = bad_row(f, t->row) || t->block >= c, range = bad_run(f, t->p, t->c);
+    if (WRONG(422) && outside)
+        return -4;
+    if ((WRONG(423) && range) || (WRONG(424) && !range && outside))
+        if (bad_ledger(f, b->ledger) || bad_book(f, b))
+            return -5;
+    return range && !WRONG(425) ? -2 : outside ? -4 : 0;
+}
+
+/* What the marks say: 7 to a post, 13 to a withdrawal. */
+static int64_t by_mark(const formula *f, const booked *b, const named *t, int withdrawn)
+{
+    int marked = is_marked(f, b->ledger, t->row, t->block % BLOCKS);
+    if (withdrawn && WRONG(426))
+        marked = !is_zero(kept_at(b, t->row, t->block % BLOCKS), 16);
+    if (withdrawn && WRONG(427) && marks_in(f, b->ledger) == f->rows * load(b->ledger + 8, 2))
+        return -13;
+    if (withdrawn)
+        return marked || WRONG(428) ? 0 : WRONG(429) ? -7 : WRONG(430) ? -8 : -13;
+    return marked && !WRONG(431) ? WRONG(432) ? -13 : -7 : 0;
+}
+
+static int64_t refused_ticket(const formula *f, const booked *b, const named *t, int bad_sum, int withdrawn)
+{
+    int bad_book_len = bad_book_size(b);
+    if (bad_ledger_size(f, b->ledger_len) || unaligned(54, b->ledger) || bad_sum)
+        return -1;
+    if (bad_book_len && !(WRONG(433) && bad_place(f, t->p, t->c, t->row, t->block) != 0))
+        return WRONG(434) ? -5 : -1;
+    int64_t bad = bad_book_len ? bad_place(f, t->p, t->c, t->row, t->block) : bad_named(f, b, t);
+    if (bad == 0)
+        bad = bad_state(f, b, t->p, t->c, by_mark(f, b, t, withdrawn));
+    if (bad != 0 && bad != -1 && !bad_book_len)
+        write_both(f, b, bad);
+    return bad;
+}
+
+/* Posting one. The row sum becomes what the row keeps, the new sum with it. */
+
+/* What wrong engines make of what is kept. */
+static void misplace(const formula *f, const booked *b, uint64_t row, uint64_t block)
+{
+    uint8_t *at = kept_at(b, row, block), sum[16];
+    memcpy(sum, at, 16);
+    if (WRONG(435) || WRONG(436))
+        memset(at, 0, 16);
+    if (WRONG(436))
+        memcpy(kept_at(b, row, (block + 1) % BLOCKS), sum, 16);
+    if (WRONG(437) || WRONG(438))
+        memset(at + (WRONG(437) ? 8 : 0), 0, 8);
+    for (int i = 0; i < 16 && WRONG(439); i++)
+        at[i] = sum[15 - i];
+    if (WRONG(440))
+        memcpy(at, b->ledger + sum_at(f, row), 16);
+}
+
+static void keep(const formula *f, const booked *b, uint64_t row, uint64_t block, const uint8_t *sum)
+{
+    uint8_t *row_sum = b->ledger + sum_at(f, row), before[16];
+    memcpy(before, row_sum, 16);
+    memcpy(kept_at(b, row, block), sum, 16);
+    add_kept(b, row, row_sum);
+    if (WRONG(441))
+        memcpy(row_sum, before, 16);
+    if (!WRONG(442))
+        mark(f, b->ledger, row, block);
+    misplace(f, b, row, block);
+}
+
+static void touch_after(const booked *b)
+{
+    if (WRONG(443))
+        b->book[BOOK] = 0;
+    if (WRONG(444))
+        b->ledger[352] = 0;
+}
+
+/* What is lent for a post, as an engine sees it that tests after the post. */
+static int64_t refused_late(const formula *f, const booked *b, const named *t, const uint8_t *sum)
+{
+    static uint8_t ledger[352], book[BOOK];
+    const booked copy = {ledger, sizeof ledger, book, sizeof book};
+    memcpy(ledger, b->ledger, sizeof ledger);
+    memcpy(book, b->book, sizeof book);
+    if (WRONG(445))
+        memset(kept_at(&copy, t->row, t->block), 0, 16);
+    if (WRONG(446))
+        add(f, ledger, t->row, sum);
+    return refused_ticket(f, &copy, t, 0, 0);
+}
+
+static int64_t book_post(const formula *f, const booked *b, named t, const uint8_t *sum, size_t sum_len)
+{
+    int bad_sum = WRONG(447) ? sum_len < 16 : length(sum_len) != 16;
+    if (WRONG(448))
+        t.row &= 255, t.block &= 255;
+    if (WRONG(449) && bad_sum && b->book_len == BOOK)
+        memset(b->book, 0, BOOK);
+    int64_t bad = refused_ticket(f, b, &t, bad_sum || unaligned(450, sum), 0);
+    if ((WRONG(445) || WRONG(446)) && (bad == -5 || bad == 0))
+        bad = refused_late(f, b, &t, sum);
+    if (WRONG(451) && bad == -7)
+        memcpy(kept_at(b, t.row, t.block), sum, 16);
+    if (bad != 0)
+        return bad;
+    if (WRONG(452) && is_zero(sum, 16))
+        return -5;
+    keep(f, b, t.row, t.block, sum);
+    touch_after(b);
+    if (WRONG(453))
+        *(volatile uint8_t *)(uintptr_t)sum = sum[0];
+    return WRONG(454) ? (int64_t)marks_in(f, b->ledger) : 0;
+}
+
+/* A sheet. */
+
+static int64_t refused_sheet(const formula *f, const booked *b, const uint8_t *sheet, size_t sheet_len)
+{
+    int64_t bad = bad_posting(f, b->ledger, b->ledger_len, sheet, sheet_len);
+    int bad_book_len = bad_book_size(b);
+    if (bad == -1 || (bad_book_len && !(WRONG(455) && bad != 0)))
+        return bad != -1 && WRONG(434) ? -5 : -1;
+    if (bad_book_len)
+        return bad;
+    if (bad < 0 && bad > -5)
+        return WRONG(456) && !bad_ledger(f, b->ledger) && bad_book(f, b) ? -5 : bad;
+    if (WRONG(457) && load(sheet + 10, 2) == 0)
+        return bad;
+    return bad_state(f, b, load(sheet, 8), load(sheet + 8, 2), any_marked(f, b->ledger, sheet) && !WRONG(458) ? -7 : 0);
+}
+
+/* What is lent for a sheet, as an engine sees it that tests after the post. */
+static int64_t refused_sheet_late(const formula *f, const booked *b, const uint8_t *sheet, size_t sheet_len)
+{
+    static uint8_t ledger[352], book[BOOK];
+    const booked copy = {ledger, sizeof ledger, book, sizeof book};
+    size_t e = load(sheet + 10, 2);
+    memcpy(ledger, b->ledger, sizeof ledger);
+    memcpy(book, b->book, sizeof book);
+    for (size_t i = 0; i < e; i++) {
+        if (WRONG(490))
+            memset(kept_at(&copy, sheet[16 + 4 * i], sheet[18 + 4 * i]), 0, 16);
+        else
+            add(f, ledger, sheet[16 + 4 * i], sheet + 16 + 4 * e + 16 * i);
+    }
+    return refused_sheet(f, &copy, sheet, sheet_len);
+}
+
+/* The sums of a sheet, or of some of its tickets. */
+static void keep_sheet(const formula *f, const booked *b, const uint8_t *sheet, size_t e)
+{
+    const uint8_t *bodies = sheet + 16 + 4 * e;
+    for (size_t i = 0; i < e; i++)
+        keep(f, b, sheet[16 + 4 * i], sheet[18 + 4 * i], bodies + 16 * i);
+    for (size_t i = 0; i < e; i++) {
+        uint8_t *at = kept_at(b, sheet[16 + 4 * i], sheet[18 + 4 * i]);
+        if ((WRONG(459) && i > 0) || (WRONG(460) && i + 1 < e) || WRONG(461))
+            memset(at, 0, 16);
+        if (WRONG(462))
+            memcpy(at, bodies, 16);
+        if (WRONG(463) && i + 1 < e)
+            memcpy(at, bodies + 16 * (i + 1), 16);
+    }
+}
+
+/* A sheet with a marked ticket, in an engine that finds it on its way. */
+static void keep_until_marked(const formula *f, const booked *b, const uint8_t *sheet, size_t e)
+{
+    for (size_t i = 0; i < e && !is_marked(f, b->ledger, sheet[16 + 4 * i], sheet[18 + 4 * i]); i++) {
+        if (WRONG(464))
+            keep(f, b, sheet[16 + 4 * i], sheet[18 + 4 * i], sheet + 16 + 4 * e + 16 * i);
+        else
+            memcpy(kept_at(b, sheet[16 + 4 * i], sheet[18 + 4 * i]), sheet + 16 + 4 * e + 16 * i, 16);
+    }
+}
+
+static int64_t book_sheet_post(const formula *f, const booked *b, const uint8_t *sheet, size_t sheet_len)
+{
+    int64_t bad = refused_sheet(f, b, sheet, sheet_len);
+    if ((WRONG(490) || WRONG(491)) && (bad == -5 || bad == 0))
+        bad = refused_sheet_late(f, b, sheet, sheet_len);
+    if (bad < -1 && b->book_len == BOOK)
+        write_both(f, b, bad);
+    if ((WRONG(464) || WRONG(465)) && bad == -7)
+        keep_until_marked(f, b, sheet, load(sheet + 10, 2));
+    if (bad != 0)
+        return bad;
+    keep_sheet(f, b, sheet, load(sheet + 10, 2));
+    touch_after(b);
+    if (WRONG(466))
+        *(volatile uint8_t *)(uintptr_t)sheet = sheet[0];
+    return WRONG(467) ? (int64_t)load(sheet + 10, 2) : 0;
+}
+
+/* Withdrawing. The row sum becomes what the row keeps without the ticket. */
+
+/* What a row sum is after a withdrawal, and what wrong engines make of it. */
+static void take_out(const formula *f, const booked *b, uint64_t row, u128 kept)
+{
+    uint8_t *row_sum = b->ledger + sum_at(f, row);
+    u128 before = load_sum(row_sum), after;
+    add_kept(b, row, row_sum);
+    after = load_sum(row_sum);
+    if (WRONG(468))
+        after = ((before >> 64) - (kept >> 64)) << 64 | (uint64_t)(before - kept);
+    if (WRONG(469) && before < kept)
+        after = 0;
+    if (WRONG(470))
+        after = 0;
+    store_sum(row_sum, WRONG(471) ? before : WRONG(472) ? before + kept : after);
+    if (WRONG(473) && before < kept && row + 1 < f->rows)
+        store_sum(row_sum + 16, load_sum(row_sum + 16) - 1);
+    if (WRONG(474) || WRONG(475)) {
+        uint8_t *other = b->ledger + sum_at(f, WRONG(475) ? 0 : (row + 1) % f->rows);
+        store_sum(row_sum, before);
+        store_sum(other, load_sum(other) - kept);
+    }
+}
+
+static void unmark(const formula *f, const booked *b, uint64_t row, uint64_t block)
+{
+    uint8_t bits = (uint8_t)(1u << (block & 7));
+    if (WRONG(476))
+        bits = (uint8_t)(1u << ((block + 1) & 7));
+    if (WRONG(477))
+        bits = 255;
+    if (WRONG(478))
+        b->ledger[mark_at(f, (row + 1) % f->rows, block)] ^= bits;
+    else if (!WRONG(479))
+        b->ledger[mark_at(f, row, block)] &= (uint8_t)~bits;
+}
+
+static void clear(const booked *b, uint64_t row, uint64_t block, const uint8_t *kept)
+{
+    uint8_t *at = kept_at(b, row, block);
+    if (WRONG(480) || WRONG(481))
+        memcpy(at + 8, kept + 8, 8);
+    if (WRONG(480) || WRONG(482))
+        memcpy(at, kept, 8);
+    if (WRONG(483))
+        at[15] = kept[15];
+    if (WRONG(484))
+        memset(kept_at(b, row, 0), 0, 16 * BLOCKS);
+    if (WRONG(485) && block < BLOCKS - 1)
+        memset(kept_at(b, row, block + 1), 0, 16);
+}
+
+static int64_t withdraw(const formula *f, const booked *b, named t)
+{
+    uint8_t kept[16];
+    if (WRONG(486))
+        t.row &= 255, t.block &= 255;
+    int64_t bad = refused_ticket(f, b, &t, 0, 1);
+    if (WRONG(487) && bad == -13)
+        mark(f, b->ledger, t.row, t.block);
+    if (bad != 0)
+        return bad;
+    memcpy(kept, kept_at(b, t.row, t.block), 16);
+    memset(kept_at(b, t.row, t.block), 0, 16);
+    take_out(f, b, t.row, load_sum(kept));
+    unmark(f, b, t.row, t.block);
+    clear(b, t.row, t.block, kept);
+    touch_after(b);
+    if (WRONG(488))
+        return (int64_t)marks_in(f, b->ledger);
+    return WRONG(489) ? 1 : 0;
+}
+
+/* The calls of bbp.h: twelve for each kind of runs, four for Bellard's runs alone, and two for digits. */
 
 #define WORKING(prefix, call, by) \
     int64_t prefix##call(uint64_t p, uint64_t c, uint64_t row, uint64_t block, uint8_t *sum, size_t sum_len, \
@@ -1539,6 +1964,30 @@ int64_t bbp_look(const uint8_t *ledger, size_t ledger_len, const uint8_t *sheet,
 {
     const formula f = bellard_runs(NO_CHECK_CALL);
     return look(&f, ledger, ledger_len, sheet, sheet_len, total, total_len);
+}
+
+int64_t bbp_book_post(uint8_t *ledger, size_t ledger_len, uint8_t *book, size_t book_len, uint64_t p, uint64_t c, uint64_t row,
+                      uint64_t block, const uint8_t *sum, size_t sum_len)
+{
+    const formula f = bellard_runs(NO_CHECK_CALL);
+    const booked b = {ledger, ledger_len, book, book_len};
+    return book_post(&f, &b, (named){p, c, row, block}, sum, sum_len);
+}
+
+int64_t bbp_book_sheet_post(uint8_t *ledger, size_t ledger_len, uint8_t *book, size_t book_len, const uint8_t *sheet,
+                            size_t sheet_len)
+{
+    const formula f = bellard_runs(NO_CHECK_CALL);
+    const booked b = {ledger, ledger_len, book, book_len};
+    return book_sheet_post(&f, &b, sheet, sheet_len);
+}
+
+int64_t bbp_book_withdraw(uint8_t *ledger, size_t ledger_len, uint8_t *book, size_t book_len, uint64_t p, uint64_t c, uint64_t row,
+                          uint64_t block)
+{
+    const formula f = bellard_runs(NO_CHECK_CALL);
+    const booked b = {ledger, ledger_len, book, book_len};
+    return withdraw(&f, &b, (named){p, c, row, block});
 }
 
 int64_t bbp_overlap(const uint8_t *first, size_t first_len, uint64_t first_p, const uint8_t *second, size_t second_len,
