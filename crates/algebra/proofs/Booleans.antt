@@ -23,7 +23,11 @@ pub and-false : (a : Bool) → (a && false) ≡ false
 and-false true = refl
 and-false false = refl
 
--- the second of two decides where the first holds
+-- the first of two decides where the second holds, and the second where the first does
+pub and-first : (a b : Bool) → b ≡ true → (a && b) ≡ a
+and-first true b e = e
+and-first false b e = refl
+
 pub and-second : (a b : Bool) → a ≡ true → b ≡ (a && b)
 and-second a b e = rw e refl
 

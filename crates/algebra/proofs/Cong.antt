@@ -2,7 +2,7 @@
 -- Assumes nothing.
 use mathlib.Core.Path.{_≡_, refl, sym, ap, ap₂, _∙_}
 use Prim.Native.Nat.{ℕ, _+_, _*_, _-_, _/_, _%_, _<_}
-use native.Mathlib.Nat.{add-mul-mod-self-right, div-add-mod', mod-eq-of-lt}
+use native.Mathlib.Nat.{add-mul-mod-self-right, div-add-mod', mod-eq-of-lt, mod-lt}
 use native.Mathlib.Omega.{arith}
 
 pub record Mod (n a b : ℕ) : Type 0 where
@@ -75,3 +75,29 @@ less c p = record { k = p .k; j = p .j; eq = omega (arith, p .eq) }
 -- zero is a multiple
 pub multiple : (n q : ℕ) → Mod n (q * n) 0
 multiple n q = record { k = 0; j = q; eq = omega arith }
+
+-- ---- x taken out of a sum modulo n: what is left of n past the remainder of x is added
+
+opposite : (n x : ℕ) → 0 < n → Mod n (x + (n - x % n)) 0
+opposite n x h = record { k = 0; j = x / n + 1; eq = omega (arith, div-add-mod' x n, mod-lt x h) }
+
+pub taken-out : (n s x : ℕ) → 0 < n → s % n ≡ ((s + x) % n + (n - x % n)) % n
+taken-out n s x h =
+    let whole : s + x + (n - x % n) ≡ s + (x + (n - x % n)) = omega arith in
+    let none : s + 0 ≡ s = omega arith in
+    sym (to-% (trans (plus (rem n (s + x)) (of-eq {a = n - x % n} refl)) (trans (of-eq whole) (trans (plus (of-eq {a = s} refl) (opposite n x h)) (of-eq none)))))
+
+pub put-back : (n s x : ℕ) → 0 < n → s % n ≡ ((s + (n - x % n)) % n + x) % n
+put-back n s x h =
+    let whole : s + (n - x % n) + x ≡ s + (x + (n - x % n)) = omega arith in
+    let none : s + 0 ≡ s = omega arith in
+    sym (to-% (trans (plus (rem n (s + (n - x % n))) (of-eq {a = x} refl)) (trans (of-eq whole) (trans (plus (of-eq {a = s} refl) (opposite n x h)) (of-eq none)))))
+
+-- of two summands either may be a remainder, and two that are added one after the other may change places
+pub rem-either : (n s x : ℕ) → (s + x % n) % n ≡ (s % n + x) % n
+rem-either n s x = to-% (trans (plus (of-eq {a = s} refl) (rem n x)) (symm (plus (rem n s) (of-eq {a = x} refl))))
+
+pub rem-swap : (n s x y : ℕ) → ((s + x) % n + y) % n ≡ ((s + y) % n + x) % n
+rem-swap n s x y =
+    let e : s + x + y ≡ s + y + x = omega arith in
+    to-% (trans (plus (rem n (s + x)) (of-eq {a = y} refl)) (trans (of-eq e) (symm (plus (rem n (s + y)) (of-eq {a = x} refl)))))

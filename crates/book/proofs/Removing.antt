@@ -4,13 +4,13 @@ use mathlib.Core.Path.{_≡_, refl, sym, ap, _∙_}
 use mathlib.Core.Bool.{true}
 use mathlib.Core.List.{List}
 use Prim.Native.Nat.{ℕ, _+_, _*_, _-_, _/_, _%_, _^_, _≤_, _<_}
-use native.Mathlib.Nat.{div-add-mod', mod-lt, mul-le-mul-right, one-mul, mod-eq-of-lt}
+use native.Mathlib.Nat.{div-add-mod', mul-le-mul-right, one-mul, mod-eq-of-lt}
 use native.Mathlib.Omega.{arith}
 use borrow.Author.Tests.{eqb-true}
 use lib.Dec.{eqb}
 use lib.ListN.{length, getD, set}
 use lib.Pow.{pow-pos}
-use Rattle.algebra.proofs.Cong.{Mod, rem, of-eq, symm, trans, plus, is-%, wrapped, less}
+use Rattle.algebra.proofs.Cong.{taken-out}
 use Rattle.words.specs.Words.{joined}
 use Rattle.words.specs.declared.Wide.{Wide}
 use Rattle.words.specs.Bytes.{AllBytes}
@@ -44,17 +44,14 @@ unmark-fits lim s row block h e =
 -- ---- the sum of its row
 
 -- the difference modulo n, as words make it: x added to it wraps back to a
-taken-out : (n r a x : ℕ) → 0 < n → r < n → (r + x) % n ≡ a → r ≡ (a + (n - x % n)) % n
-taken-out n r a x pos h e =
-    let below = mod-lt x pos in
-    let around : Mod n a (a + (n - x % n) + x % n) = record { k = 1; j = 0; eq = omega arith } in
-    is-% h (less (x % n) (trans (plus (of-eq {a = r} refl) (rem n x)) (trans (symm (wrapped n (sym e))) around)))
+difference : (n r a x : ℕ) → 0 < n → r < n → (r + x) % n ≡ a → r ≡ (a + (n - x % n)) % n
+difference n r a x pos h e = sym (mod-eq-of-lt h) ∙ taken-out n r x pos ∙ ap (λ (s : ℕ). (s + (n - x % n)) % n) e
 
 -- x taken out of one of the sums that the array holds
 pub one-taken : (a : List Wide) (row x : ℕ) (y : Wide) → row < length a → joined (y .hi) (y .lo) < modulus
     → (joined (y .hi) (y .lo) + x) % modulus ≡ valueAt a row → (i : ℕ) → valueAt (set a row y) i ≡ adding row (opposite x) (valueAt a) i
 unfolding opposite
-one-taken a row x y h fits e = one-added a row (modulus - x % modulus) y h (taken-out modulus _ _ x (pow-pos 128) fits e)
+one-taken a row x y h fits e = one-added a row (modulus - x % modulus) y h (difference modulus _ _ x (pow-pos 128) fits e)
 
 -- the sums read, one changed, the bit cleared, the sums put back
 pub removed : (lim : Limits) (s t u : List ℕ) (row block x : ℕ) (v w : ℕ → ℕ) → marksAt lim ≤ length s → AllBytes s → row < lim .rows

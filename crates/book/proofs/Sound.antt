@@ -5,7 +5,7 @@ use mathlib.Core.Path.{_≡_, refl, sym, ap, ap₂, _∙_, subst}
 use mathlib.Core.Bool.{Bool, true, false, not, cond, _&&_, _||_}
 use mathlib.Core.List.{List}
 use Prim.Native.Nat.{ℕ, _+_, _*_, _-_, _/_, _%_, _^_, _<_, _≤_}
-use native.Mathlib.Nat.{add-zero, zero-add, div-add-mod', mod-lt}
+use native.Mathlib.Nat.{add-zero, zero-add, mod-lt}
 use native.Mathlib.Omega.{arith}
 use borrow.Author.Tests.{eq-eqb, eqb-true, eqb-false}
 use lib.Dec.{eqb}
@@ -16,7 +16,7 @@ use Rattle.algebra.specs.Sum.{sum}
 use Rattle.algebra.proofs.Sums.{sum-ext, sum-zero, sum-split, sum-bump}
 use Rattle.algebra.proofs.Below.{all-true, all-at}
 use Rattle.algebra.proofs.Booleans.{and-left, and-right, and-both, not-both}
-use Rattle.algebra.proofs.Cong.{Mod, rem, of-eq, symm, trans, plus, to-%}
+use Rattle.algebra.proofs.Cong.{taken-out, rem-either}
 use Rattle.words.specs.Bytes.{field, AllBytes}
 use Rattle.words.proofs.Bytes.{field-lt}
 use Rattle.series.specs.Series.{modulus}
@@ -30,26 +30,6 @@ use Rattle.ledger.proofs.Decode.{mark-bit, encode-decode, good-decode}
 use Rattle.book.specs.Book.{bookSize, keptAt, keptIn, addsUp, zeroElsewhere, inOrderWith, viewWith, opposite}
 use Rattle.book.specs.Kept.{Keeping, openedKeeping, keeping, excluding, admitKept, dismiss, release, encodeBook, decodeWith, Sound, HoldsKept}
 use Rattle.book.proofs.Image.{keeping-here, keeping-else, excluding-here, excluding-else, length-book, kept-encode}
-
--- ---- sums modulo n
-
--- a remainder may stand on either side
-rem-either : (n S x : ℕ) → (S + x % n) % n ≡ (S % n + x) % n
-rem-either n S x = to-% (trans (plus (of-eq {a = S} refl) (rem n x)) (symm (plus (rem n S) (of-eq {a = x} refl))))
-
--- x, and what takes it out
-opposite-mod : (n x : ℕ) → 0 < n → Mod n (x + (n - x % n)) 0
-opposite-mod n x h = record { k = 0; j = x / n + 1; eq = omega (arith, div-add-mod' x n, mod-lt x h) }
-
-pub taken-out : (n S x : ℕ) → 0 < n → S % n ≡ ((S + x) % n + (n - x % n)) % n
-taken-out n S x h =
-    let whole : S + x + (n - x % n) ≡ S + (x + (n - x % n)) = omega arith in
-    sym (to-% (trans (plus (rem n (S + x)) (of-eq {a = n - x % n} refl)) (trans (of-eq whole) (trans (plus (of-eq {a = S} refl) (opposite-mod n x h)) (of-eq (add-zero S))))))
-
-pub put-back : (n S x : ℕ) → 0 < n → S % n ≡ ((S + (n - x % n)) % n + x) % n
-put-back n S x h =
-    let whole : S + (n - x % n) + x ≡ S + (x + (n - x % n)) = omega arith in
-    sym (to-% (trans (plus (rem n (S + (n - x % n))) (of-eq {a = x} refl)) (trans (of-eq whole) (trans (plus (of-eq {a = S} refl) (opposite-mod n x h)) (of-eq (add-zero S))))))
 
 -- places past the run's last block add nothing
 sum-places : (f : ℕ → ℕ) (C : ℕ) → C ≤ 256 → ((block : ℕ) → C ≤ block → f block ≡ 0) → sum f 0 256 ≡ sum f 0 C

@@ -38,7 +38,8 @@ use Rattle.ledger.proofs.Image.{including-here}
 use Rattle.booking.specs.Calls.{bookSheetPostCall, withdrawTests}
 use Rattle.booking.specs.Bookings.{Booking, posting, withdrawal, Pair, pair, bookingRefusal, bookingAnswer, bookingBytes, taken, keepAnswer, keepNext, onPairs, onKeeping, pairAfter, bookingAnswers, keepingAnswers, keepingAfter, OneByOneBooked}
 use Rattle.booking.specs.Follows.{Undoes, EitherOrder, Follows}
-use Rattle.booking.proofs.Simulation.{bytesOfKept, plain-of, Holds, WithdrawTaken, withdraw-taken, booking-bytes, booking-answer, one-booking, bookings-agree, after-fresh}
+use Rattle.booking.proofs.Testing.{WithdrawTaken, withdraw-taken, book-sized, keepable}
+use Rattle.booking.proofs.Simulation.{bytesOfKept, plain-of, Holds, booking-bytes, booking-answer, one-booking, bookings-agree, after-fresh}
 use Rattle.booking.proofs.Undone.{in-and-out, out-and-in, out-swap}
 
 -- one that is taken
@@ -127,12 +128,11 @@ module _ (lim : Limits) (fits : lim .last < 2 ^ 64) where
 
   -- and their number
   kept-length : (s : Pair) (p C row block : ℕ) → WithdrawTaken lim (viewWith lim (s .ledger) (s .book)) p C row block → length (take 16 (drop (keptAt row block) (s .book))) ≡ 16
-  unfolding viewWith
   kept-length s p C row block t =
-      let size = eqb-true (length (s .book)) (bookSize lim) (and-right (eqb (length (s .ledger)) (ledgerSize lim)) _ (t .sized)) in
-      let h = ticket-row lim C row block (t .ticket) in
-      let l = ticket-block lim C row block (t .ticket) in
-      length-part (s .book) (keptAt row block) 16 (omega (arith, size, h, l, range-of lim p C (t .range) .C-high))
+      let l = ticket-block lim C row block (t .entry .ticket) in
+      length-part (s .book) (keptAt row block) 16
+      (keepable lim (s .book) row block (book-sized lim (s .ledger) (s .book) (t .entry .sized)) (ticket-row lim C row block (t .entry .ticket))
+      (omega (arith, l, range-of lim p C (t .entry .range) .C-high)))
 
   withdrawal-undone : (s : Pair) → AllBytes (s .ledger) → AllBytes (s .book) → (p C row block : ℕ)
       → Undoes lim s (withdrawal p C row block) (posting (ticket p C row block (take 16 (drop (keptAt row block) (s .book)))))
@@ -142,13 +142,13 @@ module _ (lim : Limits) (fits : lim .last < 2 ^ 64) where
       let sum = take 16 (drop (keptAt row block) (s .book)) in
       let seen = withdraw-taken lim (viewWith lim (s .ledger) (s .book)) p C row block (by-none s a e) in
       let k = decodeWith lim (s .ledger) (s .book) in
-      let h = held s b c (seen .sized) (seen .ordered) in
+      let h = held s b c (seen .entry .sized) (seen .entry .ordered) in
       let z = plain-by-none s k a h e in
       let t = withdraw-taken lim (plainView (k .plain)) p C row block z in
       let o = sound-release lim fits k (h .1) row block (t .there) in
       undone s k a (posting (ticket p C row block sum)) h z
-      (one-by-one.not-refused lim (release k row block .plain) p C row block sum (good-of lim fits (release k row block) o) (t .same-p) (t .same-C)
-      (kept-length s p C row block seen) (subst (λ (n : ℕ). isTicket lim n row block ≡ true) (t .same-C) (t .ticket)) (excluding-here row block (k .plain .tickets)))
+      (one-by-one.not-refused lim (release k row block .plain) p C row block sum (good-of lim fits (release k row block) o) (t .entry .same-p) (t .entry .same-C)
+      (kept-length s p C row block seen) (subst (λ (n : ℕ). isTicket lim n row block ≡ true) (t .entry .same-C) (t .entry .ticket)) (excluding-here row block (k .plain .tickets)))
       (ap (λ (n : ℕ). admitKept (release k row block) (record { row = row; block = block; sum = n })) (kept-bytes s row block (t .there)) ∙ out-and-in lim k (h .1) row block (t .there))
 
   -- ---- two withdrawals of different tickets
@@ -173,7 +173,7 @@ module _ (lim : Limits) (fits : lim .last < 2 ^ 64) where
             → bookingRefusal lim (plainView (release k row′ block′ .plain)) one ≡ bookingRefusal lim (plainView (k .plain)) one
         go true e true f =
             rw (excluding-else row′ block′ (k .plain .tickets) row block
-            (λ q. apart (eqb-true _ _ e ∙ sym (t .same-p), eqb-true _ _ f ∙ sym (t .same-C), q .0, q .1))) refl
+            (λ q. apart (eqb-true _ _ e ∙ sym (t .entry .same-p), eqb-true _ _ f ∙ sym (t .entry .same-C), q .0, q .1))) refl
         go true e false f = rw (e, f) refl
         go false e b f = rw e refl
 
@@ -198,7 +198,7 @@ module _ (lim : Limits) (fits : lim .last < 2 ^ 64) where
       go : (t : Pair) (b : Bool) → eqb (bookingRefusal lim (viewWith lim (s .ledger) (s .book)) (withdrawal p C row block)) 0 ≡ b → cond b t s ≡ s
       go _ true e =
           let t = withdraw-taken lim (viewWith lim (s .ledger) (s .book)) p C row block (eqb-true _ _ e) in
-          absurd (bad (t .sized) (t .ordered))
+          absurd (bad (t .entry .sized) (t .entry .ordered))
       go _ false e = refl
 
   module _ (p C row block p′ C′ row′ block′ : ℕ) (apart : (p ≡ p′) × (C ≡ C′) × (row ≡ row′) × (block ≡ block′) → ⊥) where
@@ -219,7 +219,7 @@ module _ (lim : Limits) (fits : lim .last < 2 ^ 64) where
         go true e true f =
             let t = withdraw-taken lim (plainView (k .plain)) p C row block (eqb-true _ _ e) in
             let u = withdraw-taken lim (plainView (k .plain)) p′ C′ row′ block′ (eqb-true _ _ f) in
-            out-swap k row block row′ block′ (λ q. apart (t .same-p ∙ sym (u .same-p), t .same-C ∙ sym (u .same-C), q .0, q .1))
+            out-swap k row block row′ block′ (λ q. apart (t .entry .same-p ∙ sym (u .entry .same-p), t .entry .same-C ∙ sym (u .entry .same-C), q .0, q .1))
         go true e false f = refl
         go false e true f = refl
         go false e false f = refl

@@ -13,15 +13,12 @@ use lib.ListN.{length, replicate}
 use Rattle.algebra.specs.Machine.{leaves, answers}
 use Rattle.algebra.proofs.Machines.{agree}
 use Rattle.series.specs.Series.{modulus}
-use Rattle.run.specs.Refusal.{refusal, answer}
+use Rattle.run.specs.Refusal.{answer}
 use Rattle.run.specs.Run.{Entry, Limits, inRange, isTicket}
 use Rattle.run.specs.Call.{refusedBy, answered, allLeft}
 use Rattle.run.proofs.Range.{range-of, ticket-row, ticket-block}
-use Rattle.run.proofs.Testing.{passed, ticket-passed}
 use Rattle.ledger.specs.Ledger.{View, fresh}
 use Rattle.ledger.specs.Plain.{Plain, plainView, opened, encode, admit}
-use Rattle.ledger.specs.Calls.{postTests}
-use Rattle.ledger.proofs.Posting.{ledger-passed}
 use Rattle.ledger.proofs.Image.{enter-encode, fresh-encode}
 use Rattle.posting.specs.Calls.{enterEntry}
 use Rattle.posting.specs.Posts.{Post, ticket, sheet, postRefusal, postEntries}
@@ -30,35 +27,9 @@ use Rattle.book.specs.Book.{bookSize, keptIn, viewWith, keep, keepEntry, remove
 use Rattle.book.specs.Kept.{Keeping, openedKeeping, admitKept, dismiss, release, encodeBook, Sound}
 use Rattle.book.proofs.Image.{keep-encode, keep-rem, book-empty, remove-encode}
 use Rattle.book.proofs.Sound.{good-of, kept-there, view-with, sound-opened, sound-admit, sound-release}
-use Rattle.booking.specs.Calls.{bookPostCall, bookSheetPostCall, withdrawTests, withdrawCall}
+use Rattle.booking.specs.Calls.{bookPostCall, bookSheetPostCall, withdrawCall}
 use Rattle.booking.specs.Bookings.{Booking, posting, withdrawal, Pair, pair, bookingRefusal, bookingCall, bookingAnswer, bookingBytes, taken, keepAnswer, keepNext, onPairs, onKeeping, freshPair, pairAfter, bookingAnswers, keepingAfter, keepingAnswers}
-
--- ---- what it means that the tests of a withdrawal are passed, whatever ledger and book are seen by
-
-pub record WithdrawTaken (lim : Limits) (v : View) (p C row block : ℕ) : Type 0 where
-  pub sized : v .sized ≡ true
-  pub ticket : isTicket lim C row block ≡ true
-  pub range : inRange lim p C ≡ true
-  pub ordered : v .ordered ≡ true
-  pub same-p : p ≡ v .p
-  pub same-C : C ≡ v .C
-  pub there : v .marked row block ≡ true
-
-pub withdraw-taken : (lim : Limits) (v : View) (p C row block : ℕ) → refusal (withdrawTests lim v p C row block) ≡ 0 → WithdrawTaken lim v p C row block
-unfolding withdrawTests
-withdraw-taken lim v p C row block e =
-    let size = passed 0 _ _ e in
-    let t = ticket-passed lim p C row block _ (size .1) in
-    let l = ledger-passed v p C _ (t .2) in
-    record {
-      sized = size .0;
-      range = t .0;
-      ticket = t .1;
-      ordered = l .0;
-      same-p = l .1;
-      same-C = l .2;
-      there = passed 12 _ [] (l .3) .0;
-    }
+use Rattle.booking.proofs.Testing.{withdraw-taken}
 
 module _ (lim : Limits) (fits : lim .last < 2 ^ 64) where
   -- the bytes of the plain ledger, and of what it keeps

@@ -9,7 +9,7 @@ use borrow.Author.Tests.{eqb-true, eq-eqb, ne-eqb, not-false}
 use lib.Dec.{eqb}
 use lib.IntN.{pos, negsuc}
 use lib.ListN.{length}
-use Rattle.algebra.proofs.Booleans.{and-left, and-right, right-fails}
+use Rattle.algebra.proofs.Booleans.{and-left, and-right, and-first, right-fails}
 use Rattle.words.specs.Words.{joined}
 use Rattle.words.specs.Bytes.{field, valueOf}
 use Rattle.words.proofs.Joined.{joined-zero}
@@ -97,10 +97,13 @@ entry-taken lim v p C row block ts e =
     let l = ledger-passed v p C ts (t .2) in
     (record { sized = size .0; range = t .0; ticket = t .1; ordered = l .0; same-p = l .1; same-C = l .2 }, l .3)
 
-pub withdraw-taken : (lim : Limits) (v : View) (p C row block : ℕ) → refusal (withdrawTests lim v p C row block) ≡ 0
-    → EntryTaken lim v p C row block × (v .marked row block ≡ true)
+pub record WithdrawTaken (lim : Limits) (v : View) (p C row block : ℕ) : Type 0 where
+  pub entry : EntryTaken lim v p C row block
+  pub there : v .marked row block ≡ true
+
+pub withdraw-taken : (lim : Limits) (v : View) (p C row block : ℕ) → refusal (withdrawTests lim v p C row block) ≡ 0 → WithdrawTaken lim v p C row block
 unfolding withdrawTests
-withdraw-taken lim v p C row block e = let t = entry-taken lim v p C row block _ e in (t .0, passed 12 _ [] (t .1) .0)
+withdraw-taken lim v p C row block e = let t = entry-taken lim v p C row block _ e in record { entry = t .0; there = passed 12 _ [] (t .1) .0 }
 
 -- the ticket's place, by what a function answered that made them
 module _ (lim : Limits) (ledger book : List ℕ) (p C row block : ℕ) (a : Answer)
@@ -141,10 +144,6 @@ module _ {lim : Limits} {ledger book : List ℕ} {p C row block n : ℕ} {holds 
 
 -- ---- posting
 
-with-true : (a b : Bool) → b ≡ true → (a && b) ≡ a
-with-true true b e = e
-with-true false b e = refl
-
 module _ (lim : Limits) (ledger book : List ℕ) (p C row block : ℕ) (sum : List ℕ) where
   abbrev v : View
   v = viewWith lim ledger book
@@ -162,7 +161,7 @@ module _ (lim : Limits) (ledger book : List ℕ) (p C row block : ℕ) (sum : Li
   pub post-asks : length sum ≡ 16 → Asks lim ledger book p C row block 6 not (bookPostCall lim ledger book p C row block sum)
   unfolding bookPostCall
   post-asks h = record {
-    all-tests = record { decide = post-tests .decide ∙ ap (λ (b : Bool). refusal (from b)) (with-true (v .sized) _ (eq-eqb _ _ h)) };
+    all-tests = record { decide = post-tests .decide ∙ ap (λ (b : Bool). refusal (from b)) (and-first (v .sized) _ (eq-eqb _ _ h)) };
     zero = refl;
   }
 
@@ -203,9 +202,9 @@ module _ (lim : Limits) (ledger book : List ℕ) (p C row block : ℕ) where
     withdraw-known w f =
         let v = viewWith lim ledger book in
         let t = withdraw-taken lim v p C row block (was-worked _ a made w f .0) in
-        let e = t .0 in
+        let e = t .entry in
         let at = place lim v ledger (with-book lim ledger book) p C row block (e .sized) (e .range) (e .ticket) (e .same-C) in (
-          record { sized = at .sized; row-in = at .row-in; block-in = at .block-in; there = sym (at .bit) ∙ t .1 },
+          record { sized = at .sized; row-in = at .row-in; block-in = at .block-in; there = sym (at .bit) ∙ t .there },
           keepable lim book row block (book-sized lim ledger book (e .sized)) (at .row-in) (at .block-in),
         )
 

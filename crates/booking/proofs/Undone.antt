@@ -5,11 +5,10 @@ use mathlib.Core.Path.{_≡_, refl, sym, ap, ap₂, _∙_, subst}
 use mathlib.Core.Bool.{Bool, true, false, not, cond, _&&_}
 use Prim.Native.Nat.{ℕ, _+_, _-_, _%_, _<_}
 use native.Mathlib.Nat.{mod-eq-of-lt, mod-mod}
-use native.Mathlib.Omega.{arith}
 use borrow.Author.Tests.{eqb-true, eqb-false}
 use lib.Dec.{eqb}
 use lib.Pow.{pow-pos}
-use Rattle.algebra.proofs.Cong.{Mod, rem, of-eq, symm, trans, plus, to-%}
+use Rattle.algebra.proofs.Cong.{taken-out, put-back, rem-swap}
 use Rattle.series.specs.Series.{modulus}
 use Rattle.run.specs.Run.{Entry, Limits}
 use Rattle.ledger.specs.Plain.{Plain, admit, including, adding}
@@ -18,7 +17,6 @@ use Rattle.ledger.proofs.Image.{including-here, including-else}
 use Rattle.book.specs.Book.{opposite}
 use Rattle.book.specs.Kept.{Keeping, keeping, excluding, admitKept, dismiss, release, Sound}
 use Rattle.book.proofs.Image.{keeping-here, keeping-else, excluding-here, excluding-else}
-use Rattle.book.proofs.Sound.{taken-out, put-back}
 
 -- a ticket is the one named, or another
 pub at-or-else : (row block r b : ℕ) (P : ℕ → ℕ → Type 0) → P row block → (((r ≡ row) × (b ≡ block) → ⊥) → P r b) → P r b
@@ -112,17 +110,9 @@ adding-swap : (row x row′ y : ℕ) (v : ℕ → ℕ) (r : ℕ) → adding row�
 unfolding adding
 adding-swap row x row′ y v r = go (eqb row r) (eqb row′ r)
   where
-    both : ((v r + x) % modulus + y) % modulus ≡ ((v r + y) % modulus + x) % modulus
-    both = swap modulus (v r)
-      where
-        swap : (n s : ℕ) → ((s + x) % n + y) % n ≡ ((s + y) % n + x) % n
-        swap n s =
-            let e : s + x + y ≡ s + y + x = omega arith in
-            to-% (trans (plus (rem n (s + x)) (of-eq {a = y} refl)) (trans (of-eq e) (symm (plus (rem n (s + y)) (of-eq {a = x} refl)))))
-
     go : (a b : Bool) → cond b ((cond a ((v r + x) % modulus) (v r) + y) % modulus) (cond a ((v r + x) % modulus) (v r))
         ≡ cond a ((cond b ((v r + y) % modulus) (v r) + x) % modulus) (cond b ((v r + y) % modulus) (v r))
-    go true true = both
+    go true true = rem-swap modulus (v r) x y
     go true false = refl
     go false true = refl
     go false false = refl

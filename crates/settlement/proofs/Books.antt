@@ -29,7 +29,8 @@ use Rattle.book.proofs.Image.{excluding-here}
 use Rattle.book.proofs.Sound.{good-of, holds-kept, sound-release}
 use Rattle.booking.specs.Calls.{bookSheetPostCall, withdrawCall}
 use Rattle.booking.specs.Bookings.{withdrawal, Pair, pair, bookingRefusal, bookingAnswer, bookingBytes, taken}
-use Rattle.booking.proofs.Simulation.{withdraw-taken, after-fresh}
+use Rattle.booking.proofs.Simulation.{after-fresh}
+use Rattle.booking.proofs.Testing.{withdraw-taken}
 use Rattle.booking.proofs.Follows.{held, by-none, plain-by-none, leaves-taken, follows}
 use Rattle.look.specs.Look.{unmarkedIn}
 use Rattle.look.specs.AsPosting.{AsPosting}
@@ -88,12 +89,12 @@ then-eight F fits ledger book b c p C row block e out room =
     let a = withdrawal p C row block in
     let seen = withdraw-taken lim (viewWith lim ledger book) p C row block (by-none lim fits s a e) in
     let k = decodeWith lim ledger book in
-    let h = held lim fits s b c (seen .sized) (seen .ordered) in
+    let h = held lim fits s b c (seen .entry .sized) (seen .entry .ordered) in
     let z = plain-by-none lim fits s k a h e in
     let t = withdraw-taken lim (plainView (k .plain)) p C row block z in
     let o = sound-release lim fits k (h .1) row block (t .there) in
     refused-eight F (release k row block .plain) (good-of lim fits (release k row block) o) row block
-    (subst (λ (n : ℕ). isTicket lim n row block ≡ true) (t .same-C) (t .ticket)) (excluding-here row block (k .plain .tickets)) out room _
+    (subst (λ (n : ℕ). isTicket lim n row block ≡ true) (t .entry .same-C) (t .entry .ticket)) (excluding-here row block (k .plain .tickets)) out room _
     (ap (λ (q : Pair). q .ledger) (leaves-taken lim fits s k a h z .0))
 
 -- ---- looks

@@ -32,7 +32,8 @@ use Rattle.book.specs.Kept.{Keeping, openedKeeping, keeping, excluding, admitKe
 use Rattle.book.proofs.Image.{keeping-here, keeping-else, excluding-here, excluding-else}
 use Rattle.book.proofs.Sound.{good-of, sound-opened, sound-admit, sound-release}
 use Rattle.booking.specs.Bookings.{Booking, posting, withdrawal, bookingRefusal, bookingAnswers, taken, keepNext, keepAnswer, onKeeping, keepingAfter, keepingAnswers, Event, offer, retreat, happening, recounting, events, offeredAfter, offered}
-use Rattle.booking.proofs.Simulation.{withdraw-taken, plain-of, after-fresh}
+use Rattle.booking.proofs.Simulation.{plain-of, after-fresh}
+use Rattle.booking.proofs.Testing.{withdraw-taken}
 use Rattle.booking.proofs.Undone.{at-or-else, in-and-out}
 use Rattle.booking.proofs.Follows.{next-taken, not-refused-out, plain-next}
 use Rattle.settlement.specs.Settlement.{Filled, rowSums}
