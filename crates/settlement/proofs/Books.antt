@@ -4,14 +4,17 @@ use mathlib.Core.Path.{_≡_, refl, sym, ap, ap₂, _∙_, subst}
 use mathlib.Core.Bool.{true, false, cond}
 use mathlib.Core.List.{List, foldl}
 use Prim.Native.Nat.{ℕ, _^_, _<_}
+use native.Mathlib.Omega.{arith}
 use lib.Dec.{eqb}
 use lib.IntN.{pos, negℤ}
 use lib.ListN.{length}
+use Rattle.algebra.specs.Machine.{answers}
 use Rattle.algebra.specs.Test.{allBelow}
 use Rattle.algebra.proofs.Below.{below-false}
 use Rattle.algebra.proofs.Booleans.{and-left}
 use Rattle.words.specs.Bytes.{bytesOf, AllBytes}
 use Rattle.series.specs.Series.{Formula, rowCount, termCount}
+use Rattle.series.specs.Bellard.{bellard}
 use Rattle.series.specs.Fitting.{Position}
 use Rattle.interval.specs.Interval.{isCharged, Positive, RestBelowUnit}
 use Rattle.run.specs.Refusal.{refusal, answer}
@@ -19,16 +22,18 @@ use Rattle.run.specs.Run.{Limits, limitsOf, inRange, isTicket}
 use Rattle.run.specs.Call.{answered, bytesLeft, refusedBy, allLeft}
 use Rattle.run.proofs.Range.{position, ticket-row, ticket-block}
 use Rattle.ledger.specs.Ledger.{View, viewOf, ledgerSize, inOrder, totalOf, totalIn}
-use Rattle.ledger.specs.Plain.{Plain, plainView, encode}
+use Rattle.ledger.specs.Plain.{Plain, plainView, encode, opened, admit, including}
+use Rattle.ledger.specs.Calls.{postTests}
 use Rattle.ledger.proofs.Image.{Good}
 use Rattle.sheet.specs.Sheet.{entries}
+use Rattle.posting.specs.Posts.{postEntries}
 use Rattle.posting.specs.Calls.{sheetTests, sheetPostCall, enterEntry}
 use Rattle.book.specs.Book.{viewWith, inOrderWith}
-use Rattle.book.specs.Kept.{dismiss, release, decodeWith}
+use Rattle.book.specs.Kept.{openedKeeping, admitKept, excluding, dismiss, release, decodeWith}
 use Rattle.book.proofs.Image.{excluding-here}
 use Rattle.book.proofs.Sound.{good-of, holds-kept, sound-release}
-use Rattle.booking.specs.Calls.{bookSheetPostCall, withdrawCall}
-use Rattle.booking.specs.Bookings.{withdrawal, Pair, pair, bookingRefusal, bookingAnswer, bookingBytes, taken}
+use Rattle.booking.specs.Calls.{bookSheetPostCall, withdrawTests, withdrawCall}
+use Rattle.booking.specs.Bookings.{withdrawal, Pair, pair, bookingRefusal, bookingAnswer, bookingBytes, taken, keepAnswer, keepNext}
 use Rattle.booking.proofs.Simulation.{after-fresh}
 use Rattle.booking.proofs.Testing.{withdraw-taken}
 use Rattle.booking.proofs.Follows.{held, by-none, plain-by-none, leaves-taken, follows}
@@ -37,7 +42,7 @@ use Rattle.look.specs.AsPosting.{AsPosting}
 use Rattle.look.proofs.Looking.{looks-as-posted}
 use Rattle.closing.specs.Closing.{closeBy, closeCall}
 use Rattle.closing.proofs.Encoded.{answer-encoded, bytes-encoded}
-use Rattle.settlement.specs.Books.{Demand3ByBook, Books}
+use Rattle.settlement.specs.Books.{Demand3ByBook, Books, someBookings, BookingsAnswered}
 use Rattle.settlement.proofs.Theorem.{completed}
 use Rattle.settlement.proofs.Filler.{filled-exists}
 use Rattle.settlement.proofs.Offers.{all-in, rows-right, last-run, filled-offers, mended}
@@ -142,3 +147,9 @@ books-hold F fits above rest = record {
   then-eight = then-eight F fits;
   looks = λ ledger book s total z o room. looks-by-book (limitsOf F) ledger book z o s total room;
 }
+
+-- ---- figures
+
+pub bookings-answered : BookingsAnswered
+unfolding answers keepAnswer keepNext taken bookingRefusal postTests withdrawTests plainView refusal answer postEntries openedKeeping opened admitKept admit including release dismiss excluding inRange isTicket bytesOf
+bookings-answered = after-fresh (limitsOf bellard) (omega arith) 1 1 refl someBookings .0 ∙ refl

@@ -9,6 +9,7 @@ use lib.IntN.{pos, negℤ}
 use lib.ListN.{length, take}
 use Rattle.words.specs.Bytes.{bytesOf, AllBytes}
 use Rattle.series.specs.Series.{Formula, rowCount, termCount}
+use Rattle.series.specs.Bellard.{bellard}
 use Rattle.interval.specs.Exact.{MakesWhole, exactSum}
 use Rattle.interval.specs.Interval.{isCharged, LiesFrom}
 use Rattle.run.specs.Run.{limitsOf, inRange, isTicket, ticketSum}
@@ -88,3 +89,17 @@ pub record Books (F : Formula) : Type 0 where
   -- where ledger and book are in order together, a look is to a post by the book what it is to one without
   pub looks : (ledger book s total : List ℕ) → viewWith (limitsOf F) ledger book .sized ≡ true → viewWith (limitsOf F) ledger book .ordered ≡ true → length total ≡ 16
       → AsPosting (limitsOf F) (bookSheetPostCall (limitsOf F) ledger book s) ledger s total
+
+-- ---- posts and withdrawals, taken and refused: Bellard's run p = 1, C = 1
+
+-- a ticket posted with a sum of 16 bytes, which is refused the second time; withdrawn, which is refused the second time, too; withdrawals that name
+-- another run, no ticket and no run; and the ticket posted again
+abbrev pub someBookings : List Booking
+someBookings =
+    posting (ticket 1 1 0 0 (bytesOf 16 5)) ∷ posting (ticket 1 1 0 0 (bytesOf 16 6)) ∷ withdrawal 1 1 0 0 ∷ withdrawal 1 1 0 0
+    ∷ withdrawal 2 1 0 0 ∷ withdrawal 1 1 0 1 ∷ withdrawal 0 1 0 1 ∷ posting (ticket 1 1 0 0 (bytesOf 16 6)) ∷ []
+
+abbrev pub BookingsAnswered : Type 0
+BookingsAnswered =
+    bookingAnswers (limitsOf bellard) 1 1 someBookings
+    ≡ pos 0 ∷ negℤ (pos 7) ∷ pos 0 ∷ negℤ (pos 13) ∷ negℤ (pos 6) ∷ negℤ (pos 4) ∷ negℤ (pos 2) ∷ pos 0 ∷ []
