@@ -379,8 +379,8 @@ int64_t bbp_book_sheet_post(uint8_t *ledger, size_t ledger_len, uint8_t *book, s
  * Withdraws one ticket: takes the sum that the book keeps for it out of its row's
  * sum modulo 2^128, clears its mark, and zeroes its 16 bytes of the book. So a
  * post by the book and its withdrawal leave ledger and book as they would be
- * without the two, whatever else was posted or withdrawn in between. The ticket
- * can be posted again, with any sum.
+ * without the two, as long as no call in between named the ticket. The ticket can
+ * be posted again, with any sum.
  *
  * Answers 0, or refusal 1 (ledger_len not BBP_LEDGER_SIZE, book_len not
  * BBP_BOOK_SIZE), 2, 4, 5 (also by the book), 6, or 13 if the ticket is not

@@ -1,11 +1,12 @@
 -- The engine is none of the wrong engines. Closings part from it at p = 1, which settles thirty digits, or at p = 5, which settles
 -- twenty-nine, or on a full ledger whose total lies at the edge of a digit; tickets, halves and posts at p = 1 with one block, in rows 0 and 1; counts of
--- squarings at p = 1 and p = 51, in rows 0, 2 and 3, and at the last position; looks at a fresh ledger of p = 1; parts of two strings that differ.
+-- squarings at p = 1 and p = 51, in rows 0, 2 and 3, and at the last position; looks at a fresh ledger of p = 1; withdrawals by books that keep one sum at a wrong place;
+-- parts of two strings that differ.
 -- Assumes nothing.
 use mathlib.Core.Path.{_≡_, refl, sym, ap, ap₂, subst, _∙_}
-use mathlib.Core.Bool.{Bool, true, false, not, cond}
+use mathlib.Core.Bool.{Bool, true, false, not, cond, _&&_, _||_}
 use mathlib.Core.List.{List, [], _∷_, _++_}
-use Prim.Native.Nat.{ℕ, _+_, _*_, _-_, _/_, _%_, _^_, _<_}
+use Prim.Native.Nat.{ℕ, _+_, _*_, _-_, _/_, _%_, _^_, _<_, _≤_}
 use native.Mathlib.Omega.{arith}
 use borrow.Author.Tests.{eq-eqb, eqb-false, not-true}
 use lib.Dec.{eqb, lit<}
@@ -17,7 +18,7 @@ use Rattle.algebra.specs.Machine.{leaves, answers}
 use Rattle.algebra.specs.Sum.{sum}
 use Rattle.algebra.specs.Test.{allBelow}
 use Rattle.algebra.proofs.Booleans.{not-both}
-use Rattle.algebra.proofs.Below.{all-at, all-true}
+use Rattle.algebra.proofs.Below.{all-at, all-true, all-ext}
 use Rattle.algebra.proofs.Sums.{sum-ext}
 use Rattle.algebra.specs.Whole.{residue, sameℤ}
 use Rattle.words.specs.Bytes.{bytesOf, valueOf, field}
@@ -27,7 +28,7 @@ use Rattle.series.specs.Bellard.{bellard}
 use Rattle.series.specs.declared.Series.the-variants.{Bellard}
 use Rattle.digits.specs.Digits.{settledUpTo, settled, hexDigit, isDigit, hexText, lowDigits}
 use Rattle.interval.specs.Interval.{Rule, isCharged, everyTerm, charges, low, high}
-use Rattle.run.specs.Refusal.{_⇐_, refusal, answer}
+use Rattle.run.specs.Refusal.{_⇐_, refusal, answer, tested}
 use Rattle.run.proofs.Answering as answering
 use Rattle.run.specs.Run.{inRange, isTicket, bound, ticketSum}
 use Rattle.run.specs.Call.{answered, bytesLeft, refusedBy, allLeft}
@@ -37,13 +38,17 @@ use Rattle.ticket.specs.declared.Part.{Part}
 use Rattle.ticket.specs.declared.Part.the-variants.{Whole, Lower, Upper}
 use Rattle.ledger.specs.Ledger.{fresh, enter, mark, addTo, rowSumIn, totalOf, viewOf, posIn, blocksIn, totalIn, bitIn, markIn, inOrder}
 use Rattle.ledger.specs.Plain.{Plain, opened, plainView, admit, including, adding, encode, fullPlain}
-use Rattle.ledger.proofs.Image.{Good, pos-encode, sum-encode}
+use Rattle.ledger.proofs.Image.{Good, pos-encode, blocks-encode, sum-encode, total-encode, length-encode, bit-encode, mark-encode, order-encode}
 use Rattle.ledger.specs.Calls.{postTests, postCall}
 use Rattle.sheet.specs.Sheet.{sheetPos, sheetBlocks, sheetCount, rowIn, blockIn, sumIn, entriesFrom, entries, every, ascending, wellFormed, contentsOf, bodiesOf, sheetOf}
 use Rattle.sheet.specs.Tests.{sheetSized}
 use Rattle.posting.specs.Calls.{sheetTests, sheetPostCall}
 use Rattle.posting.specs.Posts.{ledgerAfter, plainAfter, Post, ticket, postBytes, postRefusal, postEntries, plainPost}
 use Rattle.posting.proofs.Simulation.{after-fresh}
+use Rattle.book.specs.Book.{keptIn, addsUp, zeroElsewhere, inOrderWith, viewWith}
+use Rattle.book.specs.Kept.{keeping, encodeBook}
+use Rattle.book.proofs.Image.{kept-encode, length-book}
+use Rattle.booking.specs.Calls.{withdrawTests, withdrawCall}
 use Rattle.look.specs.Look.{unmarkedOf, unmarkedIn, lookTests, lookCall}
 use Rattle.closing.specs.Closing.{settledAt, digitsAt, closeBy, closeCall}
 use Rattle.closing.proofs.Closing.{nine-alone}
@@ -61,7 +66,7 @@ use Rattle.settlement.proofs.Figures.{spreads}
 use Rattle.settlement.proofs.Squarings.{squaring-figures-hold}
 use Rattle.settlement.proofs.Filler.{filled-exists}
 use Rattle.settlement.proofs.FirstDigits.{closes-with, first-digits}
-use Rattle.wrong_engines.specs.WrongEngines.{lim, AnswersAs, LeavesAs, ClosesAs, byRule, aboveZero, everyAdded, everySubtracted, sameDigits, WorksAs, oneSum, cutInBoth, cutInNeither, ownSigns, Way, byWorking, byQuoting, CountsAs, countedBy, rightOf, topBitToo, ofWholeE, inOneWord, ofWhole, RemainAs, TotalsAs, unmarkedNow, totalNow, LooksUntested, PostsAs, doesNothing, fillEntry, fillsFirst, alwaysNine, nineUnseen, alwaysEight, madeUp, oneLess, byTotal, withoutRow, withoutCarry, wrongSize, wordBound, towardZero, settledTowardZero, Met, ShutOut, HandsAs, handedAtTwelve}
+use Rattle.wrong_engines.specs.WrongEngines.{lim, WithdrawsAs, withdrawnBy, rowByRow, againstTotal, belowC, AnswersAs, LeavesAs, ClosesAs, byRule, aboveZero, everyAdded, everySubtracted, sameDigits, WorksAs, oneSum, cutInBoth, cutInNeither, ownSigns, Way, byWorking, byQuoting, CountsAs, countedBy, rightOf, topBitToo, ofWholeE, inOneWord, ofWhole, RemainAs, TotalsAs, unmarkedNow, totalNow, LooksUntested, PostsAs, doesNothing, fillEntry, fillsFirst, alwaysNine, nineUnseen, alwaysEight, madeUp, oneLess, byTotal, withoutRow, withoutCarry, wrongSize, wordBound, towardZero, settledTowardZero, Met, ShutOut, HandsAs, handedAtTwelve}
 
 -- 6A8885A308D313198A2E03707344A, the digits from position 5 on that a run settles
 abbrev fifthDigits : List ℕ
@@ -440,6 +445,108 @@ fills-first same =
     let z : _≡_ {A = ℕ} 128 36 = ap (λ (l : List ℕ). getD l 31 0) (same 1 1 refl one-post) in
     omega (arith, z)
 
+-- ---- books
+
+withdraws : WithdrawsAs (withdrawnBy rowByRow)
+unfolding withdrawCall withdrawnBy rowByRow refusedBy answered viewWith inOrderWith
+withdraws ledger book p C row block = refl
+
+-- p = 1, C = 1, every ticket marked, the row sums 5 and six times 0, and 5 kept at one place of the book
+
+module _ (row block : ℕ) where
+  kept : ℕ → ℕ → ℕ
+  kept = keeping row block 5 (λ r b. 0)
+
+  kept-fits : (r b : ℕ) → kept r b < modulus
+  unfolding kept keeping
+  kept-fits r b = go (eqb row r && eqb block b)
+    where
+      go : (c : Bool) → cond c 5 0 < modulus
+      go true = lit< tt
+      go false = lit< tt
+
+  sums-fit : (r : ℕ) → inRow 0 5 r < modulus
+  unfolding inRow
+  sums-fit r = go (eqb 0 r)
+    where
+      go : (c : Bool) → cond c 5 0 < modulus
+      go true = lit< tt
+      go false = lit< tt
+
+  abbrev marked : Plain
+  marked = fullPlain lim (inRow 0 5)
+
+  good : Good lim marked
+  good = good-full Bellard (inRow 0 5) sums-fit
+
+  ledger-of : List ℕ
+  ledger-of = encode lim marked
+
+  book-of : List ℕ
+  book-of = encodeBook lim kept
+
+  kept-at : (r b : ℕ) → r < 7 → b < 256 → keptIn book-of r b ≡ kept r b
+  unfolding book-of
+  kept-at r b h l = kept-encode lim kept r b h l (kept-fits r b)
+
+  -- what the tests of a row come to
+  adds : (r : ℕ) → r < 7 → addsUp ledger-of book-of r ≡ eqb (sum (kept r) 0 256 % modulus) (inRow 0 5 r)
+  unfolding addsUp ledger-of
+  adds r h =
+      ap₂ (λ (m n : ℕ). eqb (m % modulus) n) (sum-ext (keptIn book-of r) (kept r) 0 256 (λ b l u. kept-at r b h (omega arith))) (sum-encode lim marked good r h)
+
+  zeros-up-to : (n : ℕ) → n ≤ 256 → (r : ℕ) → r < 7
+      → allBelow n (λ b. bitIn lim ledger-of r b || eqb (keptIn book-of r b) 0) ≡ allBelow n (λ b. isTicket lim 1 r b || eqb (kept r b) 0)
+  unfolding ledger-of
+  zeros-up-to n few r h =
+      all-ext n _ _ (λ b l. ap₂ (λ (x : Bool) (y : ℕ). x || eqb y 0) (bit-encode lim marked good r b h (omega arith)) (kept-at r b h (omega arith)))
+
+  -- the answer to a withdrawal of the ticket of row 0, by a test of the book
+  answered-by : (fits : List ℕ → List ℕ → Bool) (c : Bool) → fits ledger-of book-of ≡ c → withdrawnBy fits ledger-of book-of 1 1 0 0 ≡ answer (cond c 0 5) 0
+  unfolding withdrawnBy viewWith withdrawTests refusal ledger-of book-of isTicket inRange
+  answered-by fits c e =
+      rw (length-encode lim marked good, length-book lim kept, order-encode lim marked good, e, pos-encode lim marked good, blocks-encode lim marked good, mark-encode lim marked good 0 0)
+      (go c)
+    where
+      go : (c : Bool) → tested (withdrawTests lim (record { sized = true; ordered = c; p = 1; C = 1; marked = λ r b. true }) 1 1 0 0) ≡ answer (cond c 0 5) 0
+      go true = refl
+      go false = refl
+
+  by-rows : rowByRow ledger-of book-of ≡ allBelow 7 (λ r. eqb (sum (kept r) 0 256 % modulus) (inRow 0 5 r) && allBelow 256 (λ b. isTicket lim 1 r b || eqb (kept r b) 0))
+  unfolding rowByRow zeroElsewhere
+  by-rows = all-ext 7 _ _ (λ r h. ap₂ _&&_ (adds r h) (zeros-up-to 256 (omega arith) r h))
+
+  by-total : againstTotal ledger-of book-of
+      ≡ (eqb (sum (λ r. sum (kept r) 0 256) 0 7 % modulus) (totalOf lim (inRow 0 5)) && allBelow 7 (λ r. allBelow 256 (λ b. isTicket lim 1 r b || eqb (kept r b) 0)))
+  unfolding againstTotal zeroElsewhere ledger-of
+  by-total =
+      ap₂ _&&_
+      (ap₂ (λ (m n : ℕ). eqb (m % modulus) n)
+      (sum-ext (λ r. sum (keptIn book-of r) 0 256) (λ r. sum (kept r) 0 256) 0 7
+      (λ r l u. sum-ext (keptIn book-of r) (kept r) 0 256 (λ b m v. kept-at r b (omega arith) (omega arith))))
+      (total-encode lim marked good))
+      (all-ext 7 _ _ (λ r h. zeros-up-to 256 (omega arith) r h))
+
+  by-blocks : belowC ledger-of book-of ≡ allBelow 7 (λ r. eqb (sum (kept r) 0 256 % modulus) (inRow 0 5 r) && allBelow 1 (λ b. isTicket lim 1 r b || eqb (kept r b) 0))
+  unfolding belowC ledger-of
+  by-blocks = rw (blocks-encode lim marked good) (all-ext 7 _ _ (λ r h. ap₂ _&&_ (adds r h) (zeros-up-to 1 (omega arith) r h)))
+
+  -- where the engine's test fails and another does not, the answers are 5 and 0
+  tells-apart : (fits : List ℕ → List ℕ → Bool) → rowByRow ledger-of book-of ≡ false → fits ledger-of book-of ≡ true → WithdrawsAs (withdrawnBy fits) → ⊥
+  unfolding answer
+  tells-apart fits f t same =
+      no-digits 4 0 (sym (answered-by rowByRow false f) ∙ sym (withdraws ledger-of book-of 1 1 0 0) ∙ same ledger-of book-of 1 1 0 0 ∙ answered-by fits true t)
+
+-- the 5 is kept in row 1: the total is right, and rows 0 and 1 are not
+against-total : WithdrawsAs (withdrawnBy againstTotal) → ⊥
+unfolding allBelow sum kept keeping inRow isTicket totalOf
+against-total = tells-apart 1 0 againstTotal (by-rows 1 0 ∙ refl) (by-total 1 0 ∙ refl)
+
+-- it is kept in row 0, at block 255
+below-C : WithdrawsAs (withdrawnBy belowC) → ⊥
+unfolding allBelow sum kept keeping inRow isTicket
+below-C = tells-apart 0 255 belowC (by-rows 0 255 ∙ refl) (by-blocks 0 255 ∙ refl)
+
 -- ---- parts: 243F from position 1 on, and 3E6A from position 3 on, which differ at position 4
 
 handed-at-twelve : HandsAs handedAtTwelve → ⊥
@@ -480,6 +587,8 @@ shut-out = record {
   untested = untested;
   does-nothing = does-nothing;
   fills-first = fills-first;
+  against-total = against-total;
+  below-C = below-C;
   handed-at-twelve = handed-at-twelve;
   product-in-a-word = (refl, λ e. omega (arith, e));
   rounded-toward-zero = (refl, refl);
@@ -504,5 +613,6 @@ met = record {
   remain = λ ledger s total n e. look-is ledger s total n e .0;
   totals = λ ledger s total n e. look-is ledger s total n e .1;
   posts = λ p C range posts. refl;
+  withdraws = withdraws;
   hands = λ a b. refl;
 }

@@ -1,8 +1,8 @@
 -- The wrong engines that document 01 names under "Traps of this arithmetic" and "For those who test", where no edit of the code can be
--- them, wrong totals of the row sums, wrong halves of a ticket, wrong rules of charging, wrong counts of squarings, wrong looks, and wrong parts of
--- two strings: each is written down by what it answers or leaves, and `ShutOut` says that the engine is none of them. Nothing of the engine rests on these definitions.
+-- them, wrong totals of the row sums, wrong halves of a ticket, wrong rules of charging, wrong counts of squarings, wrong looks, wrong tests of a book, and wrong parts
+-- of two strings: each is written down by what it answers or leaves, and `ShutOut` says that the engine is none of them. Nothing of the engine rests on these definitions.
 use mathlib.Core.Path.{_≡_}
-use mathlib.Core.Bool.{Bool, true, not, cond, _||_}
+use mathlib.Core.Bool.{Bool, true, not, cond, _&&_, _||_}
 use mathlib.Core.List.{List, [], _∷_, _++_, foldl}
 use Prim.Native.Nat.{ℕ, zero, suc, _+_, _*_, _-_, _/_, _%_, _^_, _<_}
 use lib.Dec.{eqb, leb, ltb}
@@ -18,7 +18,7 @@ use Rattle.series.specs.Series.{plus, minus, modulus, rowCount, rowAt, rise, fa
 use Rattle.series.specs.Bellard.{bellard}
 use Rattle.digits.specs.Digits.{unitAt}
 use Rattle.interval.specs.Interval.{Rule, isCharged, everyTerm}
-use Rattle.run.specs.Refusal.{_⇐_, refusal, answer}
+use Rattle.run.specs.Refusal.{_⇐_, refusal, answer, tested}
 use Rattle.run.specs.Run.{Limits, limitsOf, inRange, isTicket, bound, Entry}
 use Rattle.run.specs.Call.{bytesLeft, refusedBy, answered}
 use Rattle.ticket.specs.Parts.{cut, partFirst, partCount, partSquarings}
@@ -28,6 +28,8 @@ use Rattle.ticket.specs.declared.Part.the-variants.{Whole, Lower, Upper}
 use Rattle.ledger.specs.Ledger.{ledgerSize, viewOf, posIn, blocksIn, rowSumIn, totalOf, totalIn, bitIn, inOrder, fresh, enter}
 use Rattle.posting.specs.Posts.{Post, postRefusal, postEntries, postAnswer, postBytes, ledgerAfter}
 use Rattle.posting.specs.Calls.{sheetPostCall}
+use Rattle.book.specs.Book.{keptIn, addsUp, zeroElsewhere, viewWith}
+use Rattle.booking.specs.Calls.{withdrawTests, withdrawCall}
 use Rattle.look.specs.Look.{unmarkedIn, lookCall}
 use Rattle.closing.specs.Closing.{lowOf, highOf, settledAt, closeBy, closeCall}
 use Rattle.overlap.specs.Strings.{Laid, secondFurther, skipped}
@@ -237,6 +239,31 @@ fillEntry s t =
 unfoldable pub fillsFirst : List ℕ → Post → List ℕ
 fillsFirst s a = cond (eqb (postRefusal lim (viewOf lim s) a) 0) (foldl fillEntry s (postEntries a)) s
 
+-- ---- withdrawals, by what they answer (document 02, slip 9)
+
+-- the engine answers every withdrawal as A does
+abbrev pub WithdrawsAs : (List ℕ → List ℕ → ℕ → ℕ → ℕ → ℕ → ℤ) → Type 0
+WithdrawsAs A = (ledger book : List ℕ) (p C row block : ℕ) → answered (withdrawCall lim ledger book p C row block) ≡ A ledger book p C row block
+
+-- by another test of the book: all else is seen of ledger and book as the engine sees it
+unfoldable pub withdrawnBy : (List ℕ → List ℕ → Bool) → List ℕ → List ℕ → ℕ → ℕ → ℕ → ℕ → ℤ
+withdrawnBy fits ledger book p C row block =
+    let v = viewWith lim ledger book in
+    tested (withdrawTests lim (record { sized = v .sized; ordered = inOrder lim ledger && fits ledger book; p = v .p; C = v .C; marked = v .marked }) p C row block)
+
+-- the engine's own: row by row, and over all 256 blocks
+unfoldable pub rowByRow : List ℕ → List ℕ → Bool
+rowByRow ledger book = allBelow 7 (λ row. addsUp ledger book row && zeroElsewhere lim ledger book row)
+
+-- all that is kept is compared with the total
+unfoldable pub againstTotal : List ℕ → List ℕ → Bool
+againstTotal ledger book = eqb (sum (λ row. sum (keptIn book row) 0 256) 0 7 % modulus) (totalIn lim ledger) && allBelow 7 (λ row. zeroElsewhere lim ledger book row)
+
+-- what is kept for blocks at C and above is not looked at
+unfoldable pub belowC : List ℕ → List ℕ → Bool
+belowC ledger book =
+    allBelow 7 (λ row. addsUp ledger book row && allBelow (blocksIn ledger) (λ block. bitIn lim ledger row block || eqb (keptIn book row block) 0))
+
 -- ---- parts of two strings of digits, by where they lie
 
 -- the engine hands out the part that P does
@@ -275,6 +302,7 @@ pub record Met : Type 0 where
   pub remain : RemainAs (λ ledger s. unmarkedIn lim (bytesLeft (sheetPostCall lim ledger s) 0))
   pub totals : TotalsAs (λ ledger s. totalIn lim (bytesLeft (sheetPostCall lim ledger s) 0))
   pub posts : PostsAs (postBytes lim)
+  pub withdraws : WithdrawsAs (withdrawnBy rowByRow)
   pub hands : HandsAs partPlace
 
 -- ---- the engine is none of the wrong ones
@@ -311,6 +339,8 @@ pub record ShutOut : Type 0 where
   pub untested : (A : List ℕ → List ℕ → List ℕ → ℕ) → LooksUntested A → ⊥
   pub does-nothing : PostsAs doesNothing → ⊥
   pub fills-first : PostsAs fillsFirst → ⊥
+  pub against-total : WithdrawsAs (withdrawnBy againstTotal) → ⊥
+  pub below-C : WithdrawsAs (withdrawnBy belowC) → ⊥
   pub handed-at-twelve : HandsAs handedAtTwelve → ⊥
   -- at p = 2 ^ 60, C = 256, block 39 would be empty; it is not
   pub product-in-a-word : let K = termCount bellard (2 ^ 60) in
