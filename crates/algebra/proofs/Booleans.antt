@@ -1,12 +1,12 @@
 -- Laws of tests.
 -- Assumes nothing.
-use mathlib.Core.Path.{_≡_, refl}
+use mathlib.Core.Path.{_≡_, refl, sym, subst}
 use mathlib.Core.Bool.{Bool, true, false, _&&_}
 use mathlib.Core.Logic.{_⊎_, inl, inr}
 use Prim.Native.Nat.{ℕ, suc, _<_}
 use native.Mathlib.Omega.{arith}
-use borrow.Author.Tests.{ltb-true, ltb-false}
-use lib.Dec.{ltb}
+use borrow.Author.Tests.{ltb-true, ltb-false, eqb-true, eqb-false, eq-eqb}
+use lib.Dec.{ltb, eqb}
 
 pub and-left : (a b : Bool) → (a && b) ≡ true → a ≡ true
 and-left true b e = refl
@@ -58,3 +58,23 @@ below-or i n h = go (ltb i n) refl
     go : (b : Bool) → ltb i n ≡ b → (i < n) ⊎ (i ≡ n)
     go true e = inl (ltb-true i n e)
     go false e = inr (let l = ltb-false i n e in omega arith)
+
+-- two numbers beside two others: the same, or not both the same
+pub same-pair : (a b : ℕ) → (eqb a a && eqb b b) ≡ true
+same-pair a b = rw (eq-eqb a a refl, eq-eqb b b refl) refl
+
+pub other-pair : (a b x y : ℕ) → ((x ≡ a) × (y ≡ b) → ⊥) → (eqb a x && eqb b y) ≡ false
+other-pair a b x y ne = go (eqb a x) refl (eqb b y) refl
+  where
+    go : (m : Bool) → eqb a x ≡ m → (n : Bool) → eqb b y ≡ n → (m && n) ≡ false
+    go true e true f = absurd (ne (sym (eqb-true a x e), sym (eqb-true b y f)))
+    go true e false f = refl
+    go false e n f = refl
+
+pub at-or-else : (a b x y : ℕ) (P : ℕ → ℕ → Type 0) → P a b → (((x ≡ a) × (y ≡ b) → ⊥) → P x y) → P x y
+at-or-else a b x y P here else = go (eqb a x) refl (eqb b y) refl
+  where
+    go : (m : Bool) → eqb a x ≡ m → (n : Bool) → eqb b y ≡ n → P x y
+    go true e true f = subst (λ (u : ℕ). P u y) (eqb-true a x e) (subst (λ (v : ℕ). P a v) (eqb-true b y f) here)
+    go true e false f = else (λ q. eqb-false b y f (sym (q .1)))
+    go false e n f = else (λ q. eqb-false a x e (sym (q .0)))

@@ -89,6 +89,14 @@ unfolding sum
 sum-zero f first zero h = refl
 sum-zero f first (suc c) h = ap₂ _+_ (sum-zero f first c h) (h (first + c))
 
+-- nothing is added from c on
+pub sum-up-to : (f : ℕ → ℕ) (c n : ℕ) → c ≤ n → ((k : ℕ) → c ≤ k → f k ≡ 0) → sum f 0 n ≡ sum f 0 c
+sum-up-to f c n h z =
+    let e : n ≡ c + (n - c) = omega arith in
+    ap (sum f 0) e ∙ sum-split f 0 c (n - c)
+    ∙ ap (λ (k : ℕ). sum f 0 c + k) (sum-ext f (λ i. 0) (0 + c) (n - c) (λ i l u. z i (omega arith)) ∙ sum-zero (λ i. 0) (0 + c) (n - c) (λ k. refl))
+    ∙ add-zero (sum f 0 c)
+
 -- every summand is x
 pub sum-same : (f : ℕ → ℕ) (x first count : ℕ) → ((k : ℕ) → first ≤ k → k < first + count → f k ≡ x) → sum f first count ≡ x * count
 unfolding sum

@@ -1,21 +1,19 @@
 -- The bytes of a book: a sum read back, a sum put into its place, and the empty book. And those of a ledger with a ticket taken out.
 -- Assumes nothing.
 use mathlib.Core.Path.{_≡_, refl, sym, ap, ap₂, _∙_, subst}
-use mathlib.Core.Bool.{Bool, true, false, not, cond, _&&_}
+use mathlib.Core.Bool.{Bool, true, false}
 use mathlib.Core.Logic.{_≢_}
 use mathlib.Core.List.{List, [], _++_, append-nil, append-assoc}
 use Prim.Native.Nat.{ℕ, suc, _+_, _*_, _-_, _/_, _%_, _^_, _<_}
-use native.Mathlib.Nat.{div-add-mod'}
 use native.Mathlib.Omega.{arith}
-use borrow.Author.Tests.{eq-eqb, eqb-true, eqb-false}
-use lib.Dec.{eqb}
 use lib.ListN.{length, getD, set, take, drop, replicate, length-append}
 use lib.Seq.{take-at, drop-at, getD-set-same, set-set, set-getD}
+use Rattle.algebra.proofs.Booleans.{same-pair, other-pair}
 use Rattle.words.specs.Bytes.{bytesOf, field}
-use Rattle.words.proofs.Bytes.{length-bytes, field-written, bytes-low}
+use Rattle.words.proofs.Bytes.{length-bytes, field-written, bytes-rem}
 use Rattle.series.specs.Series.{modulus}
 use Rattle.run.specs.Run.{Limits, isTicket}
-use Rattle.run.proofs.Range.{range-of, ticket-row, ticket-block}
+use Rattle.run.proofs.Range.{ticket-row, ticket-low}
 use Rattle.ledger.specs.Ledger.{head}
 use Rattle.ledger.specs.Plain.{Plain, sumRows, markRows, adding, encode}
 use Rattle.ledger.proofs.MarkBytes.{changed-past, mark-set, length-mark-rows}
@@ -28,29 +26,19 @@ use Rattle.book.specs.Kept.{keeping, excluding, dismiss, encodeBook}
 
 pub keeping-here : (row block x : ℕ) (kept : ℕ → ℕ → ℕ) → keeping row block x kept row block ≡ x
 unfolding keeping
-keeping-here row block x kept = rw (eq-eqb row row refl, eq-eqb block block refl) refl
+keeping-here row block x kept = rw (same-pair row block) refl
 
 pub keeping-else : (row block x : ℕ) (kept : ℕ → ℕ → ℕ) (r b : ℕ) → ((r ≡ row) × (b ≡ block) → ⊥) → kept r b ≡ keeping row block x kept r b
 unfolding keeping
-keeping-else row block x kept r b ne = go (eqb row r) refl (eqb block b) refl
-  where
-    go : (m : Bool) → eqb row r ≡ m → (n : Bool) → eqb block b ≡ n → kept r b ≡ cond (m && n) x (kept r b)
-    go true e true f = absurd (ne (sym (eqb-true _ _ e), sym (eqb-true _ _ f)))
-    go true e false f = refl
-    go false e n f = refl
+keeping-else row block x kept r b ne = rw (other-pair row block r b ne) refl
 
 pub excluding-here : (row block : ℕ) (set : ℕ → ℕ → Bool) → excluding row block set row block ≡ false
 unfolding excluding
-excluding-here row block set = rw (eq-eqb row row refl, eq-eqb block block refl) refl
+excluding-here row block set = rw (same-pair row block) refl
 
 pub excluding-else : (row block : ℕ) (set : ℕ → ℕ → Bool) (r b : ℕ) → ((r ≡ row) × (b ≡ block) → ⊥) → excluding row block set r b ≡ set r b
 unfolding excluding
-excluding-else row block set r b ne = go (eqb row r) refl (eqb block b) refl
-  where
-    go : (m : Bool) → eqb row r ≡ m → (n : Bool) → eqb block b ≡ n → (not (m && n) && set r b) ≡ set r b
-    go true e true f = absurd (ne (sym (eqb-true _ _ e), sym (eqb-true _ _ f)))
-    go true e false f = refl
-    go false e n f = refl
+excluding-else row block set r b ne = rw (other-pair row block r b ne) refl
 
 -- ---- 16 bytes for each of R places
 
@@ -114,12 +102,6 @@ module _ (lim : Limits) (kept : ℕ → ℕ → ℕ) where
         (λ j ne. keeping-else row block x kept (j / 256) (j % 256) (λ q. ne (let q₀ = q .0 in let q₁ = q .1 in omega (arith, q₀, q₁))))
 
 -- what is above 16 bytes is not written
-bytes-rem : (w x : ℕ) → bytesOf w (x % 256 ^ w) ≡ bytesOf w x
-bytes-rem w x =
-    let m = 256 ^ w in
-    let e : x % m + m * (x / m) ≡ x = omega (arith, div-add-mod' x m) in
-    sym (bytes-low w (x % m) (x / m)) ∙ ap (bytesOf w) e
-
 pub keep-rem : (book : List ℕ) (row block x : ℕ) → keep book row block (x % modulus) ≡ keep book row block x
 unfolding keep
 keep-rem book row block x =
@@ -147,7 +129,7 @@ module _ (lim : Limits) (s : Plain) (g : Good lim s) (row block : ℕ) (h : isTi
   row-in = ticket-row lim (s .C) row block h
 
   low : block < 256
-  low = let l = ticket-block lim (s .C) row block h in omega (arith, range-of lim (s .p) (s .C) (g .range) .C-high)
+  low = ticket-low lim (s .p) (s .C) row block (g .range) h
 
   -- one mark less
   marks-left : set (markRows (s .tickets) 0 (lim .rows)) (32 * row + block / 8) (getD (markRows (s .tickets) 0 (lim .rows)) (32 * row + block / 8) 0 - 2 ^ (block % 8))

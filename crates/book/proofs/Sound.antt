@@ -1,43 +1,54 @@
 -- The plain ledger that keeps its sums: what is seen of its bytes is what is seen of it, ledger and book in order together hold one, and it stays sound
 -- with a ticket put in or taken out.
 -- Assumes nothing.
-use mathlib.Core.Path.{_≡_, refl, sym, ap, ap₂, _∙_, subst}
+use mathlib.Core.Path.{_≡_, refl, sym, ap, _∙_, subst}
 use mathlib.Core.Bool.{Bool, true, false, not, cond, _&&_, _||_}
 use mathlib.Core.List.{List}
 use Prim.Native.Nat.{ℕ, _+_, _*_, _-_, _/_, _%_, _^_, _<_, _≤_}
-use native.Mathlib.Nat.{add-zero, zero-add, mod-lt}
+use native.Mathlib.Nat.{zero-add, mod-lt}
 use native.Mathlib.Omega.{arith}
 use borrow.Author.Tests.{eq-eqb, eqb-true, eqb-false}
 use lib.Dec.{eqb}
 use lib.Pow.{pow-pos}
-use lib.ListN.{length, drop, replicate}
+use lib.ListN.{length}
 use lib.Seq.{take-all}
 use Rattle.algebra.specs.Sum.{sum}
-use Rattle.algebra.proofs.Sums.{sum-ext, sum-zero, sum-split, sum-bump}
+use Rattle.algebra.proofs.Sums.{sum-ext, sum-zero, sum-up-to, sum-bump}
 use Rattle.algebra.proofs.Below.{all-true, all-at}
-use Rattle.algebra.proofs.Booleans.{and-left, and-right, and-both, not-both}
+use Rattle.algebra.proofs.Booleans.{and-left, and-right, and-both, not-both, at-or-else}
 use Rattle.algebra.proofs.Cong.{taken-out, rem-either}
 use Rattle.words.specs.Bytes.{field, AllBytes}
 use Rattle.words.proofs.Bytes.{field-lt}
 use Rattle.series.specs.Series.{modulus}
 use Rattle.run.specs.Run.{Entry, Limits, inRange, isTicket}
-use Rattle.run.proofs.Range.{range-of, ticket-row, ticket-block}
-use Rattle.ledger.specs.Ledger.{ledgerSize, blocksIn, rowSumIn, bitIn, markIn, inOrder}
-use Rattle.ledger.specs.Plain.{Plain, plainView, opened, admit, adding, including, encode, decode, sumRows}
+use Rattle.run.proofs.Range.{range-of, ticket-row, ticket-block, ticket-low}
+use Rattle.ledger.specs.Ledger.{ledgerSize, rowSumIn, bitIn, markIn, inOrder}
+use Rattle.ledger.specs.Plain.{Plain, plainView, opened, admit, adding, including, encode, decode}
 use Rattle.ledger.proofs.RowSums.{rows-ext, rows-again, adding-here, adding-else, adding-fits}
 use Rattle.ledger.proofs.Image.{Good, including-here, including-else, pos-encode, blocks-encode, sum-encode, length-encode, bit-encode, mark-encode, order-encode, good-admit}
 use Rattle.ledger.proofs.Decode.{mark-bit, encode-decode, good-decode}
 use Rattle.book.specs.Book.{bookSize, keptAt, keptIn, addsUp, zeroElsewhere, inOrderWith, viewWith, opposite}
 use Rattle.book.specs.Kept.{Keeping, openedKeeping, keeping, excluding, admitKept, dismiss, release, encodeBook, decodeWith, Sound, HoldsKept}
-use Rattle.book.proofs.Image.{keeping-here, keeping-else, excluding-here, excluding-else, length-book, kept-encode}
+use Rattle.book.proofs.Image.{keeping-here, keeping-else, length-book, kept-encode}
 
--- places past the run's last block add nothing
-sum-places : (f : ℕ → ℕ) (C : ℕ) → C ≤ 256 → ((block : ℕ) → C ≤ block → f block ≡ 0) → sum f 0 256 ≡ sum f 0 C
-sum-places f C h z =
-    let e : 256 ≡ C + (256 - C) = omega arith in
-    ap (sum f 0) e ∙ sum-split f 0 C (256 - C)
-    ∙ ap (λ (n : ℕ). sum f 0 C + n) (sum-ext f (λ i. 0) (0 + C) (256 - C) (λ i l u. z i (omega arith)) ∙ sum-zero (λ i. 0) (0 + C) (256 - C) (λ k. refl))
-    ∙ add-zero (sum f 0 C)
+-- ---- sizes of both
+
+pub ledger-sized : (lim : Limits) (ledger book : List ℕ) → viewWith lim ledger book .sized ≡ true → length ledger ≡ ledgerSize lim
+unfolding viewWith
+ledger-sized lim ledger book e = eqb-true (length ledger) (ledgerSize lim) (and-left (eqb (length ledger) (ledgerSize lim)) _ e)
+
+pub book-sized : (lim : Limits) (ledger book : List ℕ) → viewWith lim ledger book .sized ≡ true → length book ≡ bookSize lim
+unfolding viewWith
+book-sized lim ledger book e = eqb-true (length book) (bookSize lim) (and-right (eqb (length ledger) (ledgerSize lim)) _ e)
+
+-- nothing is kept past the run's last block
+past-last : (lim : Limits) (s : Plain) (kept : ℕ → ℕ → ℕ) → ((row block : ℕ) → s .tickets row block ≡ true → isTicket lim (s .C) row block ≡ true)
+    → ((row block : ℕ) → s .tickets row block ≡ false → kept row block ≡ 0) → (row block : ℕ) → s .C ≤ block → kept row block ≡ 0
+past-last lim s kept tickets off row block l = go (s .tickets row block) refl
+  where
+    go : (b : Bool) → s .tickets row block ≡ b → kept row block ≡ 0
+    go true e = let h = ticket-block lim (s .C) row block (tickets row block e) in absurd (omega arith)
+    go false e = off row block e
 
 module _ (lim : Limits) (fits : lim .last < 2 ^ 64) where
   pub good-of : (k : Keeping) → Sound lim k → Good lim (k .plain)
@@ -49,14 +60,6 @@ module _ (lim : Limits) (fits : lim .last < 2 ^ 64) where
     few : k .plain .C ≤ 256
     few = range-of lim (k .plain .p) (k .plain .C) (o .range) .C-high
 
-    -- nothing is kept past the run's last block
-    pub past-C : (row block : ℕ) → k .plain .C ≤ block → k .kept row block ≡ 0
-    past-C row block l = go (k .plain .tickets row block) refl
-      where
-        go : (b : Bool) → k .plain .tickets row block ≡ b → k .kept row block ≡ 0
-        go true e = let h = ticket-block lim (k .plain .C) row block (o .tickets-in row block e) in absurd (omega arith)
-        go false e = o .off row block e
-
     pub kept-there : (row block : ℕ) → row < lim .rows → block < 256 → keptIn (encodeBook lim (k .kept)) row block ≡ k .kept row block
     kept-there row block h l = kept-encode lim (k .kept) row block h l (o .kept-in row block)
 
@@ -65,7 +68,7 @@ module _ (lim : Limits) (fits : lim .last < 2 ^ 64) where
     row-adds row h =
         eq-eqb (sum (keptIn (encodeBook lim (k .kept)) row) 0 256 % modulus) (rowSumIn (encode lim (k .plain)) row)
         (ap (λ (n : ℕ). n % modulus)
-        (sum-ext (keptIn (encodeBook lim (k .kept)) row) (k .kept row) 0 256 (λ b l u. kept-there row b h (omega arith)) ∙ sum-places (k .kept row) (k .plain .C) few (past-C row))
+        (sum-ext (keptIn (encodeBook lim (k .kept)) row) (k .kept row) 0 256 (λ b l u. kept-there row b h (omega arith)) ∙ sum-up-to (k .kept row) (k .plain .C) 256 few (past-last lim (k .plain) (k .kept) (o .tickets-in) (o .off) row))
         ∙ o .adds-up row h ∙ sym (sum-encode lim (k .plain) (good-of k o) row h))
 
     row-zero : (row : ℕ) → row < lim .rows → zeroElsewhere lim (encode lim (k .plain)) (encodeBook lim (k .kept)) row ≡ true
@@ -104,21 +107,22 @@ module _ (lim : Limits) (fits : lim .last < 2 ^ 64) where
         go : (b : Bool) → k .plain .tickets row block ≡ b → cond b (keptIn (encodeBook lim (k .kept)) row block) 0 ≡ k .kept row block
         go true e =
             let t = o .tickets-in row block e in
-            let l = ticket-block lim (k .plain .C) row block t in
-            kept-there row block (ticket-row lim (k .plain .C) row block t) (omega (arith, few))
+            kept-there row block (ticket-row lim (k .plain .C) row block t) (ticket-low lim (k .plain .p) (k .plain .C) row block (o .range) t)
         go false e = sym (o .off row block e)
+
+    pub sums-decoded : (row : ℕ) → row < lim .rows → decodeWith lim (encode lim (k .plain)) (encodeBook lim (k .kept)) .plain .sums row ≡ k .plain .sums row
+    unfolding decodeWith decode
+    sums-decoded row h = sum-encode lim (k .plain) (good-of k o) row h
 
   -- ---- bytes that are in order together
 
   module _ (ledger book : List ℕ) (bytes : AllBytes ledger) (book-bytes : AllBytes book)
       (sized : viewWith lim ledger book .sized ≡ true) (ordered : viewWith lim ledger book .ordered ≡ true) where
-    ledger-sized : length ledger ≡ ledgerSize lim
-    unfolding viewWith
-    ledger-sized = eqb-true (length ledger) (ledgerSize lim) (and-left (eqb (length ledger) (ledgerSize lim)) _ sized)
+    ledger-has : length ledger ≡ ledgerSize lim
+    ledger-has = ledger-sized lim ledger book sized
 
-    book-sized : length book ≡ bookSize lim
-    unfolding viewWith
-    book-sized = eqb-true (length book) (bookSize lim) (and-right (eqb (length ledger) (ledgerSize lim)) _ sized)
+    book-has : length book ≡ bookSize lim
+    book-has = book-sized lim ledger book sized
 
     ledger-ordered : inOrder lim ledger ≡ true
     unfolding viewWith inOrderWith
@@ -129,13 +133,13 @@ module _ (lim : Limits) (fits : lim .last < 2 ^ 64) where
     row-ordered row h = all-at (lim .rows) _ (and-right (inOrder lim ledger) _ ordered) row h
 
     good : Good lim (decode lim ledger)
-    good = good-decode lim ledger bytes ledger-sized ledger-ordered fits
+    good = good-decode lim ledger bytes ledger-has ledger-ordered fits
 
     -- where no mark is set the place is zero, so what is kept is what the place says
     kept-is : (row block : ℕ) → row < lim .rows → block < 256 → decodeWith lim ledger book .kept row block ≡ keptIn book row block
     unfolding decodeWith zeroElsewhere
     kept-is row block h l =
-        rw (mark-bit lim ledger bytes ledger-sized ledger-ordered row block h l)
+        rw (mark-bit lim ledger bytes ledger-has ledger-ordered row block h l)
         (go (bitIn lim ledger row block) (all-at 256 (λ b. bitIn lim ledger row b || eqb (keptIn book row b) 0) (and-right (addsUp ledger book row) _ (row-ordered row h)) block l))
       where
         go : (b : Bool) → (b || eqb (keptIn book row block) 0) ≡ true → cond b (keptIn book row block) 0 ≡ keptIn book row block
@@ -145,13 +149,6 @@ module _ (lim : Limits) (fits : lim .last < 2 ^ 64) where
     off-zero : (row block : ℕ) → decode lim ledger .tickets row block ≡ false → decodeWith lim ledger book .kept row block ≡ 0
     unfolding decodeWith decode
     off-zero row block e = rw e refl
-
-    past-last : (row block : ℕ) → decode lim ledger .C ≤ block → decodeWith lim ledger book .kept row block ≡ 0
-    past-last row block l = go (decode lim ledger .tickets row block) refl
-      where
-        go : (b : Bool) → decode lim ledger .tickets row block ≡ b → decodeWith lim ledger book .kept row block ≡ 0
-        go true e = let h = ticket-block lim (decode lim ledger .C) row block (good .tickets-in row block e) in absurd (omega arith)
-        go false e = off-zero row block e
 
     kept-small : (row block : ℕ) → decodeWith lim ledger book .kept row block < modulus
     unfolding decodeWith keptIn
@@ -165,7 +162,8 @@ module _ (lim : Limits) (fits : lim .last < 2 ^ 64) where
     unfolding addsUp decode
     row-sums row h =
         ap (λ (n : ℕ). n % modulus)
-        (sym (sum-places (decodeWith lim ledger book .kept row) (decode lim ledger .C) (range-of lim (decode lim ledger .p) (decode lim ledger .C) (good .range) .C-high) (past-last row))
+        (sym (sum-up-to (decodeWith lim ledger book .kept row) (decode lim ledger .C) 256 (range-of lim (decode lim ledger .p) (decode lim ledger .C) (good .range) .C-high)
+        (past-last lim (decode lim ledger) (decodeWith lim ledger book .kept) (good .tickets-in) off-zero row))
         ∙ sum-ext (decodeWith lim ledger book .kept row) (keptIn book row) 0 256 (λ b l u. kept-is row b h (omega arith)))
         ∙ eqb-true (sum (keptIn book row) 0 256 % modulus) (rowSumIn ledger row) (and-left (addsUp ledger book row) _ (row-ordered row h))
 
@@ -184,16 +182,16 @@ module _ (lim : Limits) (fits : lim .last < 2 ^ 64) where
     unfolding encodeBook keptIn
     book-again =
         let R = 256 * lim .rows in
-        let size : 0 + 16 * (0 + R) ≤ length book = omega (arith, book-sized) in
+        let size : 0 + 16 * (0 + R) ≤ length book = omega (arith, book-has) in
         rows-ext (λ i. decodeWith lim ledger book .kept (i / 256) (i % 256)) (λ i. field book (0 + 16 * i) 16) 0 R
         (λ i l u.
         let at : 16 * (256 * (i / 256) + i % 256) ≡ 0 + 16 * i = omega arith in
         kept-is (i / 256) (i % 256) (omega arith) (omega arith) ∙ ap (λ (n : ℕ). field book n 16) at)
-        ∙ rows-again book book-bytes 0 0 R size ∙ take-all (16 * R) book (omega (arith, book-sized))
+        ∙ rows-again book book-bytes 0 0 R size ∙ take-all (16 * R) book (omega (arith, book-has))
 
     pub again-decoded : (encode lim (decodeWith lim ledger book .plain) ≡ ledger) × (encodeBook lim (decodeWith lim ledger book .kept) ≡ book)
     unfolding decodeWith
-    again-decoded = (encode-decode lim ledger bytes ledger-sized ledger-ordered, book-again)
+    again-decoded = (encode-decode lim ledger bytes ledger-has ledger-ordered, book-again)
 
   -- ---- a ticket put in, and one taken out
 
@@ -224,21 +222,10 @@ module _ (lim : Limits) (fits : lim .last < 2 ^ 64) where
           go false = o .kept-in row block
 
       more-off : (row block : ℕ) → including t (k .plain .tickets) row block ≡ false → more row block ≡ 0
-      more-off row block e = go (eqb (t .row) row) refl (eqb (t .block) block) refl
-        where
-          other : ((row ≡ t .row) × (block ≡ t .block) → ⊥) → more row block ≡ 0
-          other ne =
-              sym (keeping-else (t .row) (t .block) (t .sum % modulus) (k .kept) row block ne)
-              ∙ o .off row block (including-else t (k .plain .tickets) row block ne ∙ e)
-
-          go : (a : Bool) → eqb (t .row) row ≡ a → (b : Bool) → eqb (t .block) block ≡ b → more row block ≡ 0
-          go true f true g =
-              let in-set : including t (k .plain .tickets) row block ≡ true =
-              subst (λ (r : ℕ). including t (k .plain .tickets) r block ≡ true) (eqb-true _ _ f)
-              (subst (λ (b : ℕ). including t (k .plain .tickets) (t .row) b ≡ true) (eqb-true _ _ g) (including-here t (k .plain .tickets))) in
-              absurd (not-both (including t (k .plain .tickets) row block) in-set e)
-          go true f false g = other (λ q. eqb-false _ _ g (sym (q .1)))
-          go false f b g = other (λ q. eqb-false _ _ f (sym (q .0)))
+      more-off row block =
+          at-or-else (t .row) (t .block) row block (λ r b. including t (k .plain .tickets) r b ≡ false → more r b ≡ 0)
+          (λ e. absurd (not-both (including t (k .plain .tickets) (t .row) (t .block)) (including-here t (k .plain .tickets)) e))
+          (λ ne e. sym (keeping-else (t .row) (t .block) (t .sum % modulus) (k .kept) row block ne) ∙ o .off row block (including-else t (k .plain .tickets) row block ne ∙ e))
 
       more-adds : (row : ℕ) → row < lim .rows → sum (more row) 0 (k .plain .C) % modulus ≡ adding (t .row) (t .sum) (k .plain .sums) row
       more-adds row l = go (eqb (t .row) row) refl
@@ -336,4 +323,4 @@ module _ (lim : Limits) (fits : lim .last < 2 ^ 64) where
 
   -- ledger and book in order together hold exactly what such a plain ledger holds
   pub holds-kept : HoldsKept lim
-  holds-kept = record { in-order = view-with; kept-read = kept-decoded; sound = sound-decoded; again = again-decoded }
+  holds-kept = record { in-order = view-with; sums-read = sums-decoded; kept-read = kept-decoded; sound = sound-decoded; again = again-decoded }

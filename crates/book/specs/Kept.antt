@@ -2,7 +2,7 @@
 use mathlib.Core.Path.{_≡_}
 use mathlib.Core.Bool.{Bool, true, false, not, cond, _&&_}
 use mathlib.Core.List.{List}
-use Prim.Native.Nat.{ℕ, _*_, _/_, _%_, _^_, _<_}
+use Prim.Native.Nat.{ℕ, _*_, _/_, _%_, _<_}
 use lib.Dec.{eqb}
 use Rattle.algebra.specs.Sum.{sum}
 use Rattle.words.specs.Bytes.{AllBytes}
@@ -64,6 +64,8 @@ pub record Sound (lim : Limits) (k : Keeping) : Type 0 where
 pub record HoldsKept (lim : Limits) : Type 0 where
   -- the bytes of one have their sizes and are in order together, and what they say is what it holds
   pub in-order : (k : Keeping) → Sound lim k → viewWith lim (encode lim (k .plain)) (encodeBook lim (k .kept)) ≡ plainView (k .plain)
+  pub sums-read : (k : Keeping) → Sound lim k → (row : ℕ) → row < lim .rows
+      → decodeWith lim (encode lim (k .plain)) (encodeBook lim (k .kept)) .plain .sums row ≡ k .plain .sums row
   pub kept-read : (k : Keeping) → Sound lim k → (row block : ℕ)
       → decodeWith lim (encode lim (k .plain)) (encodeBook lim (k .kept)) .kept row block ≡ k .kept row block
   -- and bytes that have their sizes and are in order together are those of one

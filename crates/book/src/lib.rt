@@ -77,7 +77,7 @@ pub fn zero_elsewhere(f: Series, ledger: &[u8], book: &[u8], row: usize) -> bool
     true
 }
 
-// Whether the rows of a book agree with those of a ledger: each row's sums with the row's sum, and zeros with marks that are not set.
+// Whether in every row the kept sums add up to the row's sum, and places without a mark are zero.
 pub fn rows_agree(f: Series, ledger: &[u8], book: &[u8]) -> bool
     requires { ⌜ (length (now ledger) ≡ ledgerSize (limitsOf (formulaOf f))) × (length (now book) ≡ bookSize (limitsOf (formulaOf f))) ⌝ }
     ensures { λ r. ⌜

@@ -4,9 +4,9 @@
 use mathlib.Core.Path.{_≡_, refl, sym, ap, ap₂, _∙_, subst}
 use mathlib.Core.Bool.{Bool, true, false, not, cond, _&&_, _||_}
 use mathlib.Core.List.{List, [], _∷_, foldl, map, List·Memᴰ, List·Memᴰ·head, List·Memᴰ·tail, List·Memᴰ·not-nil}
-use Prim.Native.Nat.{ℕ, suc, _+_, _*_, _%_, _^_, _<_, _≤_}
+use Prim.Native.Nat.{ℕ, suc, _^_, _<_}
 use native.Mathlib.Omega.{arith}
-use borrow.Author.Tests.{eq-eqb, eqb-true, eqb-false}
+use borrow.Author.Tests.{eq-eqb, eqb-true}
 use lib.Dec.{eqb}
 use lib.IntN.{ℤ, pos, negℤ}
 use lib.ListN.{length, take, drop, replicate}
@@ -17,28 +17,27 @@ use Rattle.words.proofs.Bytes.{value-bytes, length-part}
 use Rattle.series.specs.Series.{modulus}
 use Rattle.run.specs.Refusal.{Test, refusal, answer}
 use Rattle.run.specs.Run.{Entry, Limits, inRange, isTicket}
-use Rattle.run.specs.Call.{answered, bytesLeft}
+use Rattle.run.specs.Call.{bytesLeft}
 use Rattle.run.proofs.Answering.{not-refused, refused-by}
-use Rattle.run.proofs.Range.{range-of, ticket-row, ticket-block}
-use Rattle.sheet.specs.Sheet.{sheetPos, sheetBlocks, sheetCount, entries}
-use Rattle.ledger.specs.Ledger.{View, ledgerSize, markIn}
-use Rattle.ledger.specs.Plain.{Plain, plainView, opened, admit, encode, decode}
+use Rattle.run.proofs.Range.{ticket-row, ticket-low}
+use Rattle.sheet.specs.Sheet.{sheetBlocks, sheetCount, entries}
+use Rattle.ledger.specs.Plain.{Plain, plainView, admit, encode, decode}
 use Rattle.ledger.specs.Calls.{postTests}
 use Rattle.ledger.proofs.Posting.{post-taken}
 use Rattle.posting.specs.Calls.{sheetTests}
-use Rattle.posting.specs.Posts.{Post, ticket, sheet, postRefusal, postEntries, plainAnswer, plainPost, onPlain, answersTo, ledgerAfter, plainAnswersTo, plainAfter, singles}
+use Rattle.posting.specs.Posts.{Post, ticket, sheet, postRefusal, postEntries, plainAnswer, plainPost, onPlain, answersTo, ledgerAfter, singles}
 use Rattle.posting.proofs.Testing.{sheet-taken}
 use Rattle.posting.proofs.Simulation as plainly
 use Rattle.posting.proofs.Singles as one-by-one
-use Rattle.book.specs.Book.{bookSize, keptAt, keptIn, viewWith}
-use Rattle.book.specs.Kept.{Keeping, openedKeeping, admitKept, dismiss, release, excluding, decodeWith, encodeBook, Sound}
+use Rattle.book.specs.Book.{keptAt, keptIn, viewWith}
+use Rattle.book.specs.Kept.{Keeping, openedKeeping, admitKept, dismiss, release, decodeWith, Sound}
 use Rattle.book.proofs.Image.{excluding-here, excluding-else}
-use Rattle.book.proofs.Sound.{good-of, sound-decoded, again-decoded, sound-release, sound-admit}
+use Rattle.book.proofs.Sound.{book-sized, good-of, sound-decoded, again-decoded, sound-release, sound-admit}
 use Rattle.ledger.proofs.Image.{including-here}
 use Rattle.booking.specs.Calls.{bookSheetPostCall, withdrawTests}
-use Rattle.booking.specs.Bookings.{Booking, posting, withdrawal, Pair, pair, bookingRefusal, bookingAnswer, bookingBytes, taken, keepAnswer, keepNext, onPairs, onKeeping, pairAfter, bookingAnswers, keepingAnswers, keepingAfter, OneByOneBooked}
+use Rattle.booking.specs.Bookings.{Booking, posting, withdrawal, Pair, pair, bookingRefusal, bookingAnswer, bookingBytes, taken, keepAnswer, keepNext, onPairs, onKeeping, pairAfter, bookingAnswers, OneByOneBooked}
 use Rattle.booking.specs.Follows.{Undoes, EitherOrder, Follows}
-use Rattle.booking.proofs.Testing.{WithdrawTaken, withdraw-taken, book-sized, keepable}
+use Rattle.booking.proofs.Testing.{WithdrawTaken, withdraw-taken, keepable}
 use Rattle.booking.proofs.Simulation.{bytesOfKept, plain-of, Holds, booking-bytes, booking-answer, one-booking, bookings-agree, after-fresh}
 use Rattle.booking.proofs.Undone.{in-and-out, out-and-in, out-swap}
 
@@ -129,10 +128,9 @@ module _ (lim : Limits) (fits : lim .last < 2 ^ 64) where
   -- and their number
   kept-length : (s : Pair) (p C row block : ℕ) → WithdrawTaken lim (viewWith lim (s .ledger) (s .book)) p C row block → length (take 16 (drop (keptAt row block) (s .book))) ≡ 16
   kept-length s p C row block t =
-      let l = ticket-block lim C row block (t .entry .ticket) in
+      let e = t .entry in
       length-part (s .book) (keptAt row block) 16
-      (keepable lim (s .book) row block (book-sized lim (s .ledger) (s .book) (t .entry .sized)) (ticket-row lim C row block (t .entry .ticket))
-      (omega (arith, l, range-of lim p C (t .entry .range) .C-high)))
+      (keepable lim (s .book) row block (book-sized lim (s .ledger) (s .book) (e .sized)) (ticket-row lim C row block (e .ticket)) (ticket-low lim p C row block (e .range) (e .ticket)))
 
   withdrawal-undone : (s : Pair) → AllBytes (s .ledger) → AllBytes (s .book) → (p C row block : ℕ)
       → Undoes lim s (withdrawal p C row block) (posting (ticket p C row block (take 16 (drop (keptAt row block) (s .book)))))

@@ -20,8 +20,9 @@ use Rattle.posting.specs.Calls.{enterEntry, AllEnterable}
 use Rattle.posting.proofs.Testing.{Posts, SheetTaken, sheet-taken, may-enter-all}
 use Rattle.posting.proofs.Admitting.{row-in, low}
 use Rattle.book.specs.Book.{bookSize, keptAt, viewWith, keep, keepEntry}
+use Rattle.book.proofs.Sound.{book-sized}
 use Rattle.booking.specs.Calls.{bookSheetPostCall, AllKeepable}
-use Rattle.booking.proofs.Testing.{with-book, book-sized, keepable}
+use Rattle.booking.proofs.Testing.{with-book, keepable}
 
 pub together : (lim : Limits) (ledger book s : List ℕ) → Posts lim (viewWith lim ledger book) ledger s (bookSheetPostCall lim ledger book s)
 unfolding bookSheetPostCall refusedBy

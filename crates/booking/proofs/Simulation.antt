@@ -5,30 +5,27 @@ use mathlib.Core.Path.{_≡_, refl, sym, ap, ap₂, _∙_, subst}
 use mathlib.Core.Bool.{Bool, true, false, cond}
 use mathlib.Core.List.{List, [], _∷_, foldl}
 use Prim.Native.Nat.{ℕ, _%_, _^_, _<_}
-use native.Mathlib.Omega.{arith}
 use borrow.Author.Tests.{eqb-true}
 use lib.Dec.{eqb}
-use lib.IntN.{ℤ}
-use lib.ListN.{length, replicate}
 use Rattle.algebra.specs.Machine.{leaves, answers}
 use Rattle.algebra.proofs.Machines.{agree}
 use Rattle.series.specs.Series.{modulus}
 use Rattle.run.specs.Refusal.{answer}
 use Rattle.run.specs.Run.{Entry, Limits, inRange, isTicket}
 use Rattle.run.specs.Call.{refusedBy, answered, allLeft}
-use Rattle.run.proofs.Range.{range-of, ticket-row, ticket-block}
-use Rattle.ledger.specs.Ledger.{View, fresh}
-use Rattle.ledger.specs.Plain.{Plain, plainView, opened, encode, admit}
+use Rattle.run.proofs.Range.{ticket-row, ticket-low}
+use Rattle.ledger.specs.Ledger.{View}
+use Rattle.ledger.specs.Plain.{Plain, plainView, encode, admit}
 use Rattle.ledger.proofs.Image.{enter-encode, fresh-encode}
 use Rattle.posting.specs.Calls.{enterEntry}
-use Rattle.posting.specs.Posts.{Post, ticket, sheet, postRefusal, postEntries}
+use Rattle.posting.specs.Posts.{ticket, sheet, postRefusal, postEntries}
 use Rattle.posting.proofs.Simulation.{Ready, post-ready}
-use Rattle.book.specs.Book.{bookSize, keptIn, viewWith, keep, keepEntry, remove}
-use Rattle.book.specs.Kept.{Keeping, openedKeeping, admitKept, dismiss, release, encodeBook, Sound}
+use Rattle.book.specs.Book.{keptIn, viewWith, keep, keepEntry, remove}
+use Rattle.book.specs.Kept.{Keeping, openedKeeping, admitKept, release, encodeBook, Sound}
 use Rattle.book.proofs.Image.{keep-encode, keep-rem, book-empty, remove-encode}
 use Rattle.book.proofs.Sound.{good-of, kept-there, view-with, sound-opened, sound-admit, sound-release}
 use Rattle.booking.specs.Calls.{bookPostCall, bookSheetPostCall, withdrawCall}
-use Rattle.booking.specs.Bookings.{Booking, posting, withdrawal, Pair, pair, bookingRefusal, bookingCall, bookingAnswer, bookingBytes, taken, keepAnswer, keepNext, onPairs, onKeeping, freshPair, pairAfter, bookingAnswers, keepingAfter, keepingAnswers}
+use Rattle.booking.specs.Bookings.{Booking, posting, withdrawal, Pair, pair, bookingRefusal, bookingAnswer, bookingBytes, taken, keepAnswer, keepNext, onPairs, onKeeping, freshPair, pairAfter, bookingAnswers, keepingAfter, keepingAnswers}
 use Rattle.booking.proofs.Testing.{withdraw-taken}
 
 module _ (lim : Limits) (fits : lim .last < 2 ^ 64) where
@@ -42,10 +39,9 @@ module _ (lim : Limits) (fits : lim .last < 2 ^ 64) where
       → keepEntry (encodeBook lim (k .kept)) t ≡ encodeBook lim (admitKept k t .kept)
   unfolding admitKept
   kept-one k o t h =
-      let l = ticket-block lim (k .plain .C) (t .row) (t .block) h in
-      let few = range-of lim (k .plain .p) (k .plain .C) (o .range) .C-high in
       sym (keep-rem (encodeBook lim (k .kept)) (t .row) (t .block) (t .sum))
-      ∙ keep-encode lim (k .kept) (t .row) (t .block) (ticket-row lim (k .plain .C) (t .row) (t .block) h) (omega (arith, l, few)) (t .sum % modulus)
+      ∙ keep-encode lim (k .kept) (t .row) (t .block) (ticket-row lim (k .plain .C) (t .row) (t .block) h)
+      (ticket-low lim (k .plain .p) (k .plain .C) (t .row) (t .block) (o .range) h) (t .sum % modulus)
 
   entered-one : (k : Keeping) → Sound lim k → (t : Entry) → isTicket lim (k .plain .C) (t .row) (t .block) ≡ true → k .plain .tickets (t .row) (t .block) ≡ false
       → enterEntry lim (encode lim (k .plain)) t ≡ encode lim (admitKept k t .plain)
@@ -76,9 +72,7 @@ module _ (lim : Limits) (fits : lim .last < 2 ^ 64) where
   one-out k row block o there =
       let t = o .tickets-in row block there in
       let h = ticket-row lim (k .plain .C) row block t in
-      let few = range-of lim (k .plain .p) (k .plain .C) (o .range) .C-high in
-      let l = ticket-block lim (k .plain .C) row block t in
-      let low : block < 256 = omega (arith, l, few) in (
+      let low = ticket-low lim (k .plain .p) (k .plain .C) row block (o .range) t in (
         ap₂ pair
             (ap (remove lim (encode lim (k .plain)) row block) (kept-there lim fits k o row block h low)
             ∙ remove-encode lim (k .plain) (good-of lim fits k o) row block t there (k .kept row block))

@@ -9,7 +9,7 @@ use borrow.Author.Tests.{eqb-true, eq-eqb, ne-eqb, not-false}
 use lib.Dec.{eqb}
 use lib.IntN.{pos, negsuc}
 use lib.ListN.{length}
-use Rattle.algebra.proofs.Booleans.{and-left, and-right, and-first, right-fails}
+use Rattle.algebra.proofs.Booleans.{and-first, right-fails}
 use Rattle.words.specs.Words.{joined}
 use Rattle.words.specs.Bytes.{field, valueOf}
 use Rattle.words.proofs.Joined.{joined-zero}
@@ -27,21 +27,14 @@ use Rattle.ledger.specs.Ledger.{View, ledgerSize, markAt, bitIn, markIn, enter,
 use Rattle.ledger.specs.Calls.{ofLedger, ofMarks, postTests}
 use Rattle.ledger.proofs.Posting.{Shows, Place, place, ledger-passed, PostTaken, post-taken, may-enter, sum-read}
 use Rattle.book.specs.Book.{bookSize, keptAt, keptIn, viewWith, keep, remove, Removable}
+use Rattle.book.proofs.Sound.{ledger-sized, book-sized}
 use Rattle.booking.specs.Calls.{bookPostCall, entryTests, withdrawTests, withdrawCall}
 
 -- ---- what is seen of a ledger and a book together
 
 pub with-book : (lim : Limits) (ledger book : List ℕ) → Shows lim (viewWith lim ledger book) ledger
 unfolding viewWith
-with-book lim ledger book = record {
-  size = λ e. eqb-true (length ledger) (ledgerSize lim) (and-left (eqb (length ledger) (ledgerSize lim)) _ e);
-  blocks = refl;
-  marks = λ row block. refl;
-}
-
-pub book-sized : (lim : Limits) (ledger book : List ℕ) → viewWith lim ledger book .sized ≡ true → length book ≡ bookSize lim
-unfolding viewWith
-book-sized lim ledger book e = eqb-true (length book) (bookSize lim) (and-right (eqb (length ledger) (ledgerSize lim)) _ e)
+with-book lim ledger book = record { size = ledger-sized lim ledger book; blocks = refl; marks = λ row block. refl }
 
 -- where a function that compared the sizes answered that they are right
 pub right-size : (lim : Limits) (ledger book : List ℕ) (b : Bool) → b ≡ viewWith lim ledger book .sized → not b ≡ false → viewWith lim ledger book .sized ≡ true

@@ -1,31 +1,23 @@
 -- The plain ledger that keeps its sums: a ticket put in and taken out again, taken out and put in again with the sum that was kept, and two of them
 -- taken out in either order.
 -- Assumes nothing.
-use mathlib.Core.Path.{_≡_, refl, sym, ap, ap₂, _∙_, subst}
+use mathlib.Core.Path.{_≡_, refl, sym, ap, _∙_, subst}
 use mathlib.Core.Bool.{Bool, true, false, not, cond, _&&_}
-use Prim.Native.Nat.{ℕ, _+_, _-_, _%_, _<_}
+use Prim.Native.Nat.{ℕ, _+_, _-_, _%_}
 use native.Mathlib.Nat.{mod-eq-of-lt, mod-mod}
 use borrow.Author.Tests.{eqb-true, eqb-false}
 use lib.Dec.{eqb}
 use lib.Pow.{pow-pos}
+use Rattle.algebra.proofs.Booleans.{at-or-else}
 use Rattle.algebra.proofs.Cong.{taken-out, put-back, rem-swap}
 use Rattle.series.specs.Series.{modulus}
 use Rattle.run.specs.Run.{Entry, Limits}
-use Rattle.ledger.specs.Plain.{Plain, admit, including, adding}
+use Rattle.ledger.specs.Plain.{admit, including, adding}
 use Rattle.ledger.proofs.RowSums.{adding-here, adding-else}
 use Rattle.ledger.proofs.Image.{including-here, including-else}
 use Rattle.book.specs.Book.{opposite}
 use Rattle.book.specs.Kept.{Keeping, keeping, excluding, admitKept, dismiss, release, Sound}
 use Rattle.book.proofs.Image.{keeping-here, keeping-else, excluding-here, excluding-else}
-
--- a ticket is the one named, or another
-pub at-or-else : (row block r b : ℕ) (P : ℕ → ℕ → Type 0) → P row block → (((r ≡ row) × (b ≡ block) → ⊥) → P r b) → P r b
-at-or-else row block r b P here else = go (eqb row r) refl (eqb block b) refl
-  where
-    go : (m : Bool) → eqb row r ≡ m → (n : Bool) → eqb block b ≡ n → P r b
-    go true e true f = subst (λ (x : ℕ). P x b) (eqb-true _ _ e) (subst (λ (y : ℕ). P row y) (eqb-true _ _ f) here)
-    go true e false f = else (λ q. eqb-false _ _ f (sym (q .1)))
-    go false e n f = else (λ q. eqb-false _ _ e (sym (q .0)))
 
 -- x added to a row, then y, which come to nothing
 back-again : (row x y : ℕ) (v : ℕ → ℕ) → ((v row + x) % modulus + y) % modulus ≡ v row → (r : ℕ) → adding row y (adding row x v) r ≡ v r

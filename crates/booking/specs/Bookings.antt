@@ -1,7 +1,7 @@
 -- Lists of posts of both kinds and withdrawals, on a ledger with its book and on the plain ledger that keeps each sum: what they leave and what they
 -- answer, and what is offered for a ticket since it was last withdrawn. Document 02, slip 9.
 use mathlib.Core.Path.{_≡_}
-use mathlib.Core.Bool.{Bool, cond, _&&_}
+use mathlib.Core.Bool.{cond, _&&_}
 use mathlib.Core.List.{List, [], _∷_, _++_, foldl, map}
 use Prim.Native.Nat.{ℕ}
 use lib.Dec.{eqb}
@@ -108,14 +108,14 @@ OneByOneBooked lim =
 -- What happens to tickets: one occurs, with the sum offered, or one is withdrawn.
 pub data Event : Type 0 where
   offer : Entry → Event
-  retreat : ℕ → ℕ → Event
+  withdrawn : ℕ → ℕ → Event
 
 -- a single post that names a ticket with the run's p and C and a 16-byte sum, taken or refused; the tickets of a sheet that the plain ledger takes;
 -- a withdrawal that it takes
 unfoldable pub happening : Limits → Keeping → Booking → List Event
 happening lim k (posting a) = map offer (occurring lim (k .plain) a)
 happening lim k (withdrawal p C row block) =
-    cond (eqb (bookingRefusal lim (plainView (k .plain)) (withdrawal p C row block)) 0) (retreat row block ∷ []) []
+    cond (eqb (bookingRefusal lim (plainView (k .plain)) (withdrawal p C row block)) 0) (withdrawn row block ∷ []) []
 
 -- in a list: a machine that answers what happens
 abbrev pub recounting : Limits → Machine Keeping Booking (List Event)
@@ -124,11 +124,11 @@ recounting lim = record { next = keepNext lim; answer = happening lim }
 abbrev pub events : Limits → Keeping → List Booking → List Event
 events lim k bookings = inOneList (answers (recounting lim) k bookings)
 
--- the sums offered for a ticket, in order, of which `before` were offered already: a withdrawal of the ticket strikes all before it out
+-- the sums offered for a ticket, in order, of which `before` were offered already: a withdrawal of the ticket discards what was offered before it
 unfoldable pub offeredAfter : ℕ → ℕ → List ℕ → List Event → List ℕ
 offeredAfter row block before [] = before
 offeredAfter row block before (offer t ∷ es) = offeredAfter row block (cond (isOf t row block) (before ++ t .sum ∷ []) before) es
-offeredAfter row block before (retreat r b ∷ es) = offeredAfter row block (cond (eqb r row && eqb b block) [] before) es
+offeredAfter row block before (withdrawn r b ∷ es) = offeredAfter row block (cond (eqb r row && eqb b block) [] before) es
 
 -- the sums offered for a ticket since its last withdrawal, from the start where it has none
 abbrev pub offered : ℕ → ℕ → List Event → List ℕ

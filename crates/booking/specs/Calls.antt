@@ -12,7 +12,7 @@ use Rattle.run.specs.Run.{Limits}
 use Rattle.run.specs.Tests.{ofSizes, ofTicket}
 use Rattle.sheet.specs.Sheet.{sheetLength, sheetCount, entries, allTickets}
 use Rattle.ledger.specs.Ledger.{View, enter}
-use Rattle.ledger.specs.Calls.{ofLedger, postTests}
+use Rattle.ledger.specs.Calls.{ofOrder, ofSameRun, postTests}
 use Rattle.posting.specs.Calls.{sheetTests, enterEntry}
 use Rattle.book.specs.Book.{bookSize, keptIn, viewWith, keep, keepEntry, remove}
 
@@ -45,7 +45,7 @@ ofPosted marked = (13 unless marked) ∷ []
 
 -- what is asked of one ticket, a ledger and a book by any call: `v` is what is seen of ledger and book
 abbrev pub entryTests : Limits → View → ℕ → ℕ → ℕ → ℕ → List Test
-entryTests lim v p C row block = ofSizes (v .sized) ++ ofTicket lim p C row block ++ ofLedger v p C
+entryTests lim v p C row block = ofSizes (v .sized) ++ ofTicket lim p C row block ++ ofOrder v ++ ofSameRun v p C
 
 unfoldable pub withdrawTests : Limits → View → ℕ → ℕ → ℕ → ℕ → List Test
 withdrawTests lim v p C row block = entryTests lim v p C row block ++ ofPosted (v .marked row block)

@@ -1,5 +1,5 @@
--- What follows for posts and withdrawals by the book: what one undoes, that two withdrawals do not meddle with each other, that 5 is never answered
--- from a fresh ledger and an empty book on, and that without withdrawals all is as without a book. Document 02, slip 9.
+-- What follows for posts and withdrawals by the book: what undoes what, two withdrawals in either order, that 5 is never answered from a fresh ledger
+-- and an empty book on, and that without withdrawals all is as without a book. Document 02, slip 9.
 use mathlib.Core.Path.{_≡_}
 use mathlib.Core.Bool.{true}
 use mathlib.Core.List.{List, map, List·Memᴰ}
@@ -35,7 +35,8 @@ pub record Follows (lim : Limits) : Type 0 where
   pub either-order : (s : Pair) → AllBytes (s .ledger) → AllBytes (s .book) → (p C row block p′ C′ row′ block′ : ℕ)
       → ((p ≡ p′) × (C ≡ C′) × (row ≡ row′) × (block ≡ block′) → ⊥) → EitherOrder lim s (withdrawal p C row block) (withdrawal p′ C′ row′ block′)
   -- from a fresh ledger and an empty book on, ledger and book stay in order together
-  pub never-five : (p C : ℕ) → inRange lim p C ≡ true → (bookings : List Booking) (a : ℤ) → List·Memᴰ a (bookingAnswers lim p C bookings) → a ≡ negℤ (pos 5) → ⊥
+  pub never-five : (p C : ℕ) → inRange lim p C ≡ true → (bookings : List Booking) (a : ℤ)
+      → List·Memᴰ a (bookingAnswers lim p C bookings) → a ≡ negℤ (pos 5) → ⊥
   -- posts alone are answered as without a book, and leave the ledger that they leave without one
   pub without-withdrawals : (p C : ℕ) → inRange lim p C ≡ true → (posts : List Post)
       → (bookingAnswers lim p C (map posting posts) ≡ answersTo lim p C posts) × (pairAfter lim p C (map posting posts) .ledger ≡ ledgerAfter lim p C posts)

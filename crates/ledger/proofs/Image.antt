@@ -1,17 +1,18 @@
 -- The bytes of a plain ledger: what the refusal table sees of them is what it sees of the plain ledger, and a ticket entered makes
 -- of them the bytes of the plain ledger with the ticket put in.
 -- Assumes nothing.
-use mathlib.Core.Path.{_≡_, refl, sym, ap, ap₂, _∙_, subst}
+use mathlib.Core.Path.{_≡_, refl, sym, ap, ap₂, _∙_}
 use mathlib.Core.Bool.{Bool, true, false, not, _&&_, _||_}
 use mathlib.Core.List.{List, [], _++_, append-assoc}
 use Prim.Native.Nat.{ℕ, _+_, _*_, _-_, _/_, _%_, _^_, _<_}
 use native.Mathlib.Omega.{arith}
-use borrow.Author.Tests.{ltb-false, eqb-true, eqb-false, eq-eqb}
+use borrow.Author.Tests.{ltb-false, eq-eqb}
 use lib.Dec.{ltb, eqb}
 use lib.Pow.{pow-pos}
 use lib.ListN.{length, getD, replicate, replicate-append-replicate, length-append}
 use lib.Seq.{getD-append-add}
 use Rattle.algebra.proofs.Sums.{sum-ext}
+use Rattle.algebra.proofs.Booleans.{same-pair, other-pair, at-or-else}
 use Rattle.algebra.proofs.Below.{all-true}
 use Rattle.words.specs.Bytes.{bytesOf, valueOf, field}
 use Rattle.words.proofs.Bytes.{value-bytes}
@@ -31,17 +32,12 @@ bit-eqb false = refl
 
 pub including-here : (t : Entry) (set : ℕ → ℕ → Bool) → including t set (t .row) (t .block) ≡ true
 unfolding including
-including-here t set = simp (eq-eqb (t .row) (t .row) refl, eq-eqb (t .block) (t .block) refl)
+including-here t set = rw (same-pair (t .row) (t .block)) refl
 
 pub including-else : (t : Entry) (set : ℕ → ℕ → Bool) (row block : ℕ) → ((row ≡ t .row) × (block ≡ t .block) → ⊥)
     → set row block ≡ including t set row block
 unfolding including
-including-else t set row block ne = go (eqb (t .row) row) refl (eqb (t .block) block) refl
-  where
-    go : (a : Bool) → eqb (t .row) row ≡ a → (b : Bool) → eqb (t .block) block ≡ b → set row block ≡ (a && b || set row block)
-    go true e true f = absurd (ne (sym (eqb-true _ _ e), sym (eqb-true _ _ f)))
-    go true e false f = refl
-    go false e b f = refl
+including-else t set row block ne = rw (other-pair (t .row) (t .block) row block ne) refl
 
 -- ---- a plain ledger of a run
 
@@ -194,14 +190,7 @@ good-admit lim s t g h = record {
   fits = g .fits;
   range = g .range;
   sums-in = λ row. adding-fits (t .row) (t .sum) (s .sums) row (g .sums-in row);
-  tickets-in = λ row block. go row block (eqb (t .row) row) refl (eqb (t .block) block) refl;
+  tickets-in = λ row block.
+      at-or-else (t .row) (t .block) row block (λ r b. including t (s .tickets) r b ≡ true → isTicket lim (s .C) r b ≡ true) (λ k. h)
+      (λ ne k. g .tickets-in row block (including-else t (s .tickets) row block ne ∙ k));
 }
-  where
-    go : (row block : ℕ) (a : Bool) → eqb (t .row) row ≡ a → (b : Bool) → eqb (t .block) block ≡ b
-        → including t (s .tickets) row block ≡ true → isTicket lim (s .C) row block ≡ true
-    go row block true e true f k = subst (λ (x : ℕ). isTicket lim (s .C) x block ≡ true) (eqb-true _ _ e)
-        (subst (λ (x : ℕ). isTicket lim (s .C) (t .row) x ≡ true) (eqb-true _ _ f) h)
-    go row block true e false f k =
-        g .tickets-in row block (including-else t (s .tickets) row block (λ q. eqb-false _ _ f (sym (q .1))) ∙ k)
-    go row block false e b f k =
-        g .tickets-in row block (including-else t (s .tickets) row block (λ q. eqb-false _ _ e (sym (q .0))) ∙ k)

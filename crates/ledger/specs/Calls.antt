@@ -18,9 +18,13 @@ use Rattle.ledger.specs.Ledger.{View, viewOf, ledgerSize, fresh, enter}
 abbrev pub ofOrder : View → List Test
 ofOrder v = (5 unless v .ordered) ∷ []
 
--- and is that of the run p, C
+-- it is that of the run p, C
+abbrev pub ofSameRun : View → ℕ → ℕ → List Test
+ofSameRun v p C = (6 unless (eqb p (v .p) && eqb C (v .C))) ∷ []
+
+-- both
 abbrev pub ofLedger : View → ℕ → ℕ → List Test
-ofLedger v p C = ofOrder v ++ (6 unless (eqb p (v .p) && eqb C (v .C))) ∷ []
+ofLedger v p C = ofOrder v ++ ofSameRun v p C
 
 -- none of the tickets that a post names is marked
 abbrev pub ofMarks : Bool → List Test

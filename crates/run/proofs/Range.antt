@@ -3,6 +3,7 @@
 use mathlib.Core.Path.{_≡_}
 use mathlib.Core.Bool.{true, _&&_}
 use Prim.Native.Nat.{ℕ, _<_, _≤_}
+use native.Mathlib.Omega.{arith}
 use borrow.Author.Tests.{leb-true, ltb-true, lt-ltb}
 use lib.Dec.{leb, ltb}
 use Rattle.algebra.proofs.Booleans.{and-left, and-right, and-both}
@@ -35,6 +36,13 @@ ticket-row lim C row block e = ltb-true row (lim .rows) (and-left (ltb row (lim 
 pub ticket-block : (lim : Limits) (C row block : ℕ) → isTicket lim C row block ≡ true → block < C
 unfolding isTicket
 ticket-block lim C row block e = ltb-true block C (and-right (ltb row (lim .rows)) (ltb block C) e)
+
+-- a run has at most 256 blocks, as many as a ledger has marks in a row
+pub ticket-low : (lim : Limits) (p C row block : ℕ) → inRange lim p C ≡ true → isTicket lim C row block ≡ true → block < 256
+ticket-low lim p C row block range e =
+    let few = range-of lim p C range .C-high in
+    let low = ticket-block lim C row block e in
+    omega arith
 
 pub is-ticket : (lim : Limits) (C row block : ℕ) → row < lim .rows → block < C → isTicket lim C row block ≡ true
 unfolding isTicket

@@ -15,26 +15,25 @@ use lib.ListN.{length, take, length-append}
 use Rattle.algebra.specs.Sum.{sum}
 use Rattle.algebra.specs.Machine.{leaves, answers, inOneList}
 use Rattle.algebra.proofs.Sums.{sum-ext}
-use Rattle.algebra.proofs.Booleans.{and-left, and-right, not-both}
+use Rattle.algebra.proofs.Booleans.{and-left, and-right, not-both, same-pair, other-pair, at-or-else}
 use Rattle.words.specs.Bytes.{bytesOf, valueOf}
 use Rattle.words.proofs.Bytes.{length-bytes}
 use Rattle.series.specs.Series.{Formula, rowCount, modulus}
 use Rattle.run.specs.Refusal.{answer}
-use Rattle.run.specs.Run.{Limits, limitsOf, inRange, isTicket, ticketSum, Entry}
-use Rattle.run.proofs.Range.{range-of, is-ticket}
+use Rattle.run.specs.Run.{limitsOf, inRange, isTicket, ticketSum, Entry}
+use Rattle.run.proofs.Range.{is-ticket}
 use Rattle.ledger.specs.Plain.{Plain, plainView, admit, including, isOf, opened}
 use Rattle.ledger.proofs.Image.{including-here, including-else}
-use Rattle.sheet.specs.Sheet.{entries}
 use Rattle.posting.specs.Posts.{Post, ticket, sheet, postRefusal, postEntries, plainPost, occurring, occurrences, contains}
 use Rattle.posting.proofs.Simulation.{Ready, post-ready}
 use Rattle.posting.proofs.Singles.{not-refused}
 use Rattle.book.specs.Kept.{Keeping, openedKeeping, keeping, excluding, admitKept, dismiss, release, Sound}
-use Rattle.book.proofs.Image.{keeping-here, keeping-else, excluding-here, excluding-else}
+use Rattle.book.proofs.Image.{keeping-here, keeping-else}
 use Rattle.book.proofs.Sound.{good-of, sound-opened, sound-admit, sound-release}
-use Rattle.booking.specs.Bookings.{Booking, posting, withdrawal, bookingRefusal, bookingAnswers, taken, keepNext, keepAnswer, onKeeping, keepingAfter, keepingAnswers, Event, offer, retreat, happening, recounting, events, offeredAfter, offered}
+use Rattle.booking.specs.Bookings.{Booking, posting, withdrawal, bookingRefusal, bookingAnswers, taken, keepNext, keepAnswer, onKeeping, keepingAfter, Event, offer, withdrawn, happening, events, offeredAfter, offered}
 use Rattle.booking.proofs.Simulation.{plain-of, after-fresh}
 use Rattle.booking.proofs.Testing.{withdraw-taken}
-use Rattle.booking.proofs.Undone.{at-or-else, in-and-out}
+use Rattle.booking.proofs.Undone.{in-and-out}
 use Rattle.booking.proofs.Follows.{next-taken, not-refused-out, plain-next}
 use Rattle.settlement.specs.Settlement.{Filled, rowSums}
 use Rattle.settlement.specs.Books.{FilledByBook, mending, Mended}
@@ -62,7 +61,7 @@ offered-append : (row block : ℕ) (b : List ℕ) (es fs : List Event) → offer
 unfolding offeredAfter
 offered-append row block b [] fs = refl
 offered-append row block b (offer t ∷ es) fs = offered-append row block (cond (isOf t row block) (b ++ t .sum ∷ []) b) es fs
-offered-append row block b (retreat r c ∷ es) fs = offered-append row block (cond (eqb r row && eqb c block) [] b) es fs
+offered-append row block b (withdrawn r c ∷ es) fs = offered-append row block (cond (eqb r row && eqb c block) [] b) es fs
 
 module _ (F : Formula) (p C : ℕ) (fits : F .last < 2 ^ 64) where
   -- a plain ledger of the run, and what was offered so far for each of its tickets
@@ -77,15 +76,10 @@ module _ (F : Formula) (p C : ℕ) (fits : F .last < 2 ^ 64) where
   with-offer t before row block = cond (isOf t row block) (before row block ++ t .sum ∷ []) (before row block)
 
   offer-here : (t : Entry) (before : ℕ → ℕ → List ℕ) → with-offer t before (t .row) (t .block) ≡ before (t .row) (t .block) ++ t .sum ∷ []
-  offer-here t before = rw (eq-eqb (t .row) (t .row) refl, eq-eqb (t .block) (t .block) refl) refl
+  offer-here t before = rw (same-pair (t .row) (t .block)) refl
 
   offer-else : (t : Entry) (before : ℕ → ℕ → List ℕ) (row block : ℕ) → ((row ≡ t .row) × (block ≡ t .block) → ⊥) → with-offer t before row block ≡ before row block
-  offer-else t before row block ne = go (eqb (t .row) row) refl (eqb (t .block) block) refl
-    where
-      go : (a : Bool) → eqb (t .row) row ≡ a → (b : Bool) → eqb (t .block) block ≡ b → cond (a && b) (before row block ++ t .sum ∷ []) (before row block) ≡ before row block
-      go true e true f = absurd (ne (sym (eqb-true _ _ e), sym (eqb-true _ _ f)))
-      go true e false f = refl
-      go false e b f = refl
+  offer-else t before row block ne = rw (other-pair (t .row) (t .block) row block ne) refl
 
   put-in : (k : Keeping) (before : ℕ → ℕ → List ℕ) (t : Entry) → So-far k before → isTicket (limitsOf F) (k .plain .C) (t .row) (t .block) ≡ true
       → k .plain .tickets (t .row) (t .block) ≡ false → So-far (admitKept k t) (with-offer t before)
@@ -125,10 +119,10 @@ module _ (F : Formula) (p C : ℕ) (fits : F .last < 2 ^ 64) where
   }
 
   -- one that is taken out
-  taken-out : (k : Keeping) (before : ℕ → ℕ → List ℕ) (row block : ℕ) → So-far k before → Sound (limitsOf F) (release k row block)
+  after-withdrawal : (k : Keeping) (before : ℕ → ℕ → List ℕ) (row block : ℕ) → So-far k before → Sound (limitsOf F) (release k row block)
       → So-far (release k row block) (λ r b. cond (eqb row r && eqb block b) [] (before r b))
   unfolding release dismiss excluding keeping Standing
-  taken-out k before row block s o = record {
+  after-withdrawal k before row block s o = record {
     run = s .run;
     sound = o;
     stands = λ r b in-run. go r b (eqb row r && eqb block b) (s .stands r b in-run);
@@ -193,11 +187,11 @@ module _ (F : Formula) (p C : ℕ) (fits : F .last < 2 ^ 64) where
   after-one k before (withdrawal q D r c) s = go (eqb (bookingRefusal (limitsOf F) (plainView (k .plain)) (withdrawal q D r c)) 0) refl
     where
       go : (b : Bool) → eqb (bookingRefusal (limitsOf F) (plainView (k .plain)) (withdrawal q D r c)) 0 ≡ b
-          → So-far (cond b (release k r c) k) (λ row block. offeredAfter row block (before row block) (cond b (retreat r c ∷ []) []))
+          → So-far (cond b (release k r c) k) (λ row block. offeredAfter row block (before row block) (cond b (withdrawn r c ∷ []) []))
       go true e =
           let z = eqb-true _ _ e in
           let t = withdraw-taken (limitsOf F) (plainView (k .plain)) q D r c z in
-          taken-out k before r c s (sound-release (limitsOf F) fits k (s .sound) r c (t .there))
+          after-withdrawal k before r c s (sound-release (limitsOf F) fits k (s .sound) r c (t .there))
       go false e = s
 
   -- ---- a list
@@ -357,19 +351,19 @@ module _ (F : Formula) (p C : ℕ) (fits : F .last < 2 ^ 64) where
     unfolding happening occurring postEntries openedKeeping opened entry
     posted = rw (eq-eqb p p refl, eq-eqb C C refl, length-bytes 16 x) refl
 
-    withdrawn : happening (limitsOf F) (keepNext (limitsOf F) (openedKeeping p C) post) out ≡ retreat row block ∷ []
+    withdrawn-then : happening (limitsOf F) (keepNext (limitsOf F) (openedKeeping p C) post) out ≡ withdrawn row block ∷ []
     unfolding happening
-    withdrawn = rw (after-post, out-taken) refl
+    withdrawn-then = rw (after-post, out-taken) refl
 
     all-events : events (limitsOf F) (openedKeeping p C) (mending p C row block x (map posting posts))
-        ≡ offer entry ∷ retreat row block ∷ events (limitsOf F) (openedKeeping p C) (map posting posts)
+        ≡ offer entry ∷ withdrawn row block ∷ events (limitsOf F) (openedKeeping p C) (map posting posts)
     unfolding answers inOneList
-    all-events = rw (posted, withdrawn, after-out) refl
+    all-events = rw (posted, withdrawn-then, after-out) refl
 
-    -- what is offered first for the ticket is struck out again
-    struck-out : (r b : ℕ) (es : List Event) → offered r b (offer entry ∷ retreat row block ∷ es) ≡ offered r b es
+    -- what is offered first for the ticket is discarded
+    discarded : (r b : ℕ) (es : List Event) → offered r b (offer entry ∷ withdrawn row block ∷ es) ≡ offered r b es
     unfolding offeredAfter entry
-    struck-out r b es = go (eqb row r && eqb block b)
+    discarded r b es = go (eqb row r && eqb block b)
       where
         go : (c : Bool) → offeredAfter r b (cond c [] (cond c (valueOf (bytesOf 16 x) ∷ []) [])) es ≡ offeredAfter r b [] es
         go true = refl
@@ -377,7 +371,7 @@ module _ (F : Formula) (p C : ℕ) (fits : F .last < 2 ^ 64) where
 
     offered-are : (r b : ℕ) → offered r b (events (limitsOf F) (openedKeeping p C) (mending p C row block x (map posting posts)))
         ≡ offered r b (events (limitsOf F) (openedKeeping p C) (map posting posts))
-    offered-are r b = ap (offered r b) all-events ∙ struck-out r b (events (limitsOf F) (openedKeeping p C) (map posting posts))
+    offered-are r b = ap (offered r b) all-events ∙ discarded r b (events (limitsOf F) (openedKeeping p C) (map posting posts))
 
     first-two : take 2 (bookingAnswers (limitsOf F) p C (mending p C row block x (map posting posts))) ≡ pos 0 ∷ pos 0 ∷ []
     unfolding answers keepAnswer answer

@@ -34,7 +34,7 @@ pub record FilledByBook (F : Formula) (p C : ℕ) (bookings : List Booking) : Ty
   pub right : (row block : ℕ) → isTicket (limitsOf F) C row block ≡ true → (x : ℕ)
       → List·Memᴰ x (offered row block (events (limitsOf F) (openedKeeping p C) bookings)) → x ≡ ticketSum F p C row block
 
--- What is had of a ledger's bytes s whose rows have these sums, where every ticket is in with its right sum: rows, total, bound and closing as demand 3
+-- What holds of a ledger's bytes s whose rows have these sums, where every ticket is in with its right sum: rows, total, bound and closing as demand 3
 -- has them.
 pub record Completed (F : Formula) (p C : ℕ) (sums : ℕ → ℕ) (s : List ℕ) : Type 0 where
   pub rows : (row : ℕ) → row < rowCount F → sums row ≡ rowSums F p C row
@@ -92,7 +92,7 @@ pub record Books (F : Formula) : Type 0 where
 
 -- ---- posts and withdrawals, taken and refused: Bellard's run p = 1, C = 1
 
--- a ticket posted with a sum of 16 bytes, which is refused the second time; withdrawn, which is refused the second time, too; withdrawals that name
+-- These figures stand for themselves: a ticket posted with a sum of 16 bytes, which is refused the second time; withdrawn, which is refused the second time, too; withdrawals that name
 -- another run, no ticket and no run; and the ticket posted again
 abbrev pub someBookings : List Booking
 someBookings =

@@ -29,8 +29,9 @@ pub record Asked (F : Formula) : Type 0 where
   pub rest : (p : ℕ) → Position F p → RestBelowUnit isCharged F p (termCount F p)
 
 -- What is promised: the three demands; the smallest number that applies, a sheet as its tickets one by one, too many tickets refused by 3 or
--- 4, the halves of a ticket; looks that equal posts onto a copy; ledgers with a book, from which tickets are withdrawn; squarings handed back and quoted, where E falls and stays short; digits as from a
--- ledger with one total; no digit lost since every term was charged; and that what demand 3 supposes can be had.
+-- 4, the halves of a ticket; looks that equal posts onto a copy; ledgers with a book, from which tickets are withdrawn; squarings handed back and
+-- quoted, where E falls and stays short; digits as from a ledger with one total; no digit lost since every term was charged; and that what demand 3
+-- supposes can be had.
 pub record Promised (F : Formula) : Type 0 where
   pub demand1 : Demand1 F
   pub demand2 : Demand2 F

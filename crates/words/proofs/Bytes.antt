@@ -4,7 +4,7 @@ use mathlib.Core.Path.{_≡_, refl, sym, ap, ap₂, _∙_}
 use mathlib.Core.Bool.{Bool, true, false}
 use mathlib.Core.List.{List, [], _∷_, _++_, append-nil, append-assoc}
 use Prim.Native.Nat.{ℕ, zero, suc, _+_, _*_, _/_, _%_, _^_, _<_, _≤_}
-use native.Mathlib.Nat.{pow-le-pow-right, div-div-eq-div-mul, div-one, le-of-suc-le-suc, not-suc-le-zero, pow-zero, pow-succ', zero-add, add-mul-div-left, div-eq-of-lt}
+use native.Mathlib.Nat.{div-add-mod', pow-le-pow-right, div-div-eq-div-mul, div-one, le-of-suc-le-suc, not-suc-le-zero, pow-zero, pow-succ', zero-add, add-mul-div-left, div-eq-of-lt}
 use native.Mathlib.Numerals.{add-one}
 use native.Mathlib.Omega.{arith}
 use borrow.Author.Tests.{ltb-true, ltb-false}
@@ -51,6 +51,12 @@ bytes-low (suc w) x y =
     let e : (x + 256 ^ suc w * y) % 256 ≡ x % 256 = omega arith in
     let f : (x + 256 ^ suc w * y) / 256 ≡ x / 256 + 256 ^ w * y = omega arith in
     ap₂ (λ (n : ℕ) (l : List ℕ). n ∷ l) e (ap (bytesOf w) f ∙ bytes-low w (x / 256) y)
+
+pub bytes-rem : (w x : ℕ) → bytesOf w (x % 256 ^ w) ≡ bytesOf w x
+bytes-rem w x =
+    let m = 256 ^ w in
+    let e : x % m + m * (x / m) ≡ x = omega (arith, div-add-mod' x m) in
+    sym (bytes-low w (x % m) (x / m)) ∙ ap (bytesOf w) e
 
 -- two numbers, one above the other
 pub bytes-join : (v w x y : ℕ) → x < 256 ^ v → bytesOf (v + w) (x + 256 ^ v * y) ≡ bytesOf v x ++ bytesOf w y

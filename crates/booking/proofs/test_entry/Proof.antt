@@ -3,7 +3,8 @@
 use borrow.Author.Needs.{needs}
 use borrow.Author.Tests.{not-true, not-false}
 use Rattle.book.specs.Book.{viewWith}
-use Rattle.booking.proofs.Testing.{with-book, book-sized, right-size, wrong-size, no-ticket, by-ledger}
+use Rattle.book.proofs.Sound.{book-sized}
+use Rattle.booking.proofs.Testing.{with-book, right-size, wrong-size, no-ticket, by-ledger}
 use Rattle.booking.proofs.test_entry.Statement.{statement}
 use Rattle.booking.proofs.test_entry.Tie as tie
 

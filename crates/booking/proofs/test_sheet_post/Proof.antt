@@ -6,7 +6,8 @@ use borrow.Author.Needs.{needs}
 use borrow.Author.Tests.{not-true, not-false}
 use Rattle.sheet.proofs.Form.{sheet-fits}
 use Rattle.posting.proofs.Testing.{ledger-size, sheet-size, other-sheet, other-ledger, may-look, one-marked, admitted}
-use Rattle.booking.proofs.Testing.{with-book, book-sized, right-size}
+use Rattle.book.proofs.Sound.{book-sized}
+use Rattle.booking.proofs.Testing.{with-book, right-size}
 use Rattle.booking.proofs.SheetTesting.{together}
 use Rattle.booking.proofs.test_sheet_post.Statement.{statement}
 use Rattle.booking.proofs.test_sheet_post.Tie as tie
