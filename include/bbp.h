@@ -51,7 +51,8 @@
  * refused. Nor does a sum in 16 bytes name its formula.
  *
  * docs/FORMATS.md, installed as share/doc/bbp/FORMATS.md, gives the bytes of a
- * ledger, a list and a sheet, the arithmetic, and each call's refusals in order.
+ * ledger, a book, a list and a sheet, the arithmetic, and each call's refusals in
+ * order.
  *
  * Callers have to be built again with this header: since version 4.0.0 the six
  * working calls have two arguments more. An object built with an older header
@@ -351,8 +352,9 @@ int64_t bbp_look(const uint8_t *ledger, size_t ledger_len, const uint8_t *sheet,
  * the ledger and no book: bbp_close, bbp_look and the closing program take a ledger
  * that was posted to by a book as any other.
  *
- * Testing a book reads all of it, once in each call. A refused call changes no
- * byte of the ledger and none of the book. Check runs have no books.
+ * Each call that gets so far tests the book once, and that goes through all of
+ * it. A refused call changes no byte of the ledger and none of the book. Check
+ * runs have no books.
  */
 
 /*

@@ -44,6 +44,15 @@ void give_back(struct plain *plain, uint64_t row, uint64_t block)
     plain->taken[row][block] = 0;
 }
 
+uint64_t plain_unmarked(const struct plain *plain)
+{
+    uint64_t unmarked = ROWS * plain->c;
+    for (uint64_t row = 0; row < ROWS; row++)
+        for (uint64_t block = 0; block < plain->c; block++)
+            unmarked -= plain->taken[row][block];
+    return unmarked;
+}
+
 void plain_ledger(const struct plain *plain, uint8_t *ledger)
 {
     memset(ledger, 0, LEDGER_SIZE);

@@ -22,6 +22,8 @@ int plain_list_answer(const struct plain *plain, uint64_t p, const uint8_t *list
 void take(struct plain *plain, uint64_t row, uint64_t block, const uint8_t *sum);
 void take_list(struct plain *plain, const uint8_t *list, size_t e, const uint8_t *sums);
 void give_back(struct plain *plain, uint64_t row, uint64_t block);
+/* The tickets of the run that are not in its set. */
+uint64_t plain_unmarked(const struct plain *plain);
 /* The bytes that a ledger and a book have to be. */
 void plain_ledger(const struct plain *plain, uint8_t *ledger);
 void plain_book(const struct plain *plain, uint8_t *book);

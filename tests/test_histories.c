@@ -78,7 +78,8 @@ static void post_sheet(uint64_t p, const uint8_t *list, size_t e, const uint8_t 
     if (wanted == 0)
         take_list(&plain, list, e, sheet + 16 + 4 * e);
     compare_bytes("a sheet post");
-    CHECK(seen == wanted || (wanted == 0 && seen > 0), "a look answers %" PRId64 " before a post that answers %d", seen, wanted);
+    int64_t rest = wanted == 0 ? (int64_t)plain_unmarked(&plain) : wanted;
+    CHECK(seen == rest, "a look answers %" PRId64 " before a post that answers %d, not %" PRId64, seen, wanted, rest);
     CHECK(wanted != 0 || ref_load_sum(total) == ref_total(FORMULA, ledger), "the total of a look");
 }
 
