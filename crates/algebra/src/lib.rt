@@ -1,1 +1,2 @@
 // Laws of numbers that the other crates share. No code.
+#![tactic(auto)]

@@ -1,4 +1,6 @@
 // Posting by the book, and withdrawing: ledger and book are changed together, or not at all.
+#![tactic(auto)]
+
 ghost use Rattle.std.specs.Prelude.{◌≡◌, true};
 ghost use mathlib.Core.List.{[], ◌∷◌, foldl};
 ghost use Rattle.series.specs.Names.{formula_of};

@@ -1,1 +1,2 @@
 // The calls as values, one for each request: definitions alone. No code.
+#![tactic(auto)]

@@ -1,4 +1,6 @@
 // The closing program: reads one ledger from standard input and prints its line.
+#![tactic(auto)]
+
 use libc::{STDIN_FILENO, STDOUT_FILENO};
 use series::Series;
 

@@ -1,4 +1,6 @@
 // Closing a ledger: the digits that the interval around the total of its rows' sums settles.
+#![tactic(auto)]
+
 pub mod charges;
 
 ghost use Rattle.std.specs.Prelude.{◌≡◌, [], ◌∷◌, ◌+◌, ◌^◌, ◌<◌, pos};

@@ -1,4 +1,6 @@
 // The line that the closing program prints for a ledger, built in a buffer.
+#![tactic(auto)]
+
 ghost use Rattle.std.specs.Prelude.{◌≡◌, ◌+◌, ◌≤◌, ◌<◌, length, take};
 ghost use Rattle.io.specs.Counts.{IsPrefixLen};
 ghost use Rattle.series.specs.Names.{formula_of};

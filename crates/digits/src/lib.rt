@@ -1,4 +1,6 @@
 // Hexadecimal digits of numbers of two words, and their characters.
+#![tactic(auto)]
+
 ghost use Rattle.std.specs.Prelude.{◌≡◌, ◌++◌, ◌+◌, ◌/◌, ◌%◌, ◌<◌, ◌≤◌, pos, length, drop};
 ghost use Rattle.words.specs.Words.{joined};
 ghost use Rattle.digits.specs.Digits.{unit_at, settled, hex_digit, is_digit, low_digits};

@@ -1,4 +1,6 @@
 // The calls of the C interface: a thin function for each, whose contract names the request that it serves, with its formula.
+#![tactic(auto)]
+
 pub mod answers;
 pub mod books;
 pub mod close;

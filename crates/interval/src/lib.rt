@@ -1,1 +1,2 @@
 // The interval in which the exact sum lies. No code.
+#![tactic(auto)]

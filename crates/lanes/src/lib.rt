@@ -1,4 +1,6 @@
 // Eight powers side by side: each turn is made in every lane before the next. What one lane promises holds of each.
+#![tactic(auto)]
+
 ghost use Rattle.std.specs.Prelude.{◌≡◌, ◌+◌, ◌%◌, ◌^◌, ◌≤◌, ◌<◌};
 ghost use Rattle.algebra.specs.Bits.{bit_length};
 ghost use Rattle.montgomery.specs.Modulus.{Modulus};

@@ -1,4 +1,6 @@
 // The ledger: its bytes, opening it and posting a ticket.
+#![tactic(auto)]
+
 pub mod marks;
 pub mod sums;
 

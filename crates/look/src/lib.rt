@@ -1,4 +1,6 @@
 // A look at a sheet before it is posted: what posting it would answer and leave, with the ledger only read.
+#![tactic(auto)]
+
 ghost use Rattle.std.specs.Prelude.{[], ◌∷◌, ◌≡◌, pos};
 ghost use Rattle.words.specs.Words.{joined};
 ghost use Rattle.series.specs.Names.{formula_of};

@@ -6,7 +6,7 @@ ghost use Rattle.montgomery.specs.Standing.{Started};
 
 use crate::MontgomeryResidue;
 
-#[derive(Drop)]
+#[derive(Clone, Copy)]
 pub struct Counted {
     pub residue: MontgomeryResidue,
     squarings: u64,

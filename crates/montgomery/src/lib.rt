@@ -1,5 +1,7 @@
 // Arithmetic modulo an odd n by Montgomery's method: the whole part of 2^e / n, modulo 2^128.
 // Algorithms 3, 4, 5 and 7 of Takahashi's paper, each in a function of its own.
+#![tactic(auto)]
+
 ghost use Rattle.std.specs.Prelude.{◌≡◌, ℕ, ◌+◌, ◌-◌, ◌*◌, ◌/◌, ◌%◌, ◌^◌, ◌<◌, ◌≤◌, min};
 ghost use Rattle.algebra.specs.Bits.{bit_length};
 ghost use Rattle.words.specs.Words.{joined};
@@ -12,15 +14,15 @@ use crate::counted::Counted;
 use words::Wide;
 
 // A plain residue: a number below the modulus.
-#[derive(Drop)]
+#[derive(Clone, Copy)]
 pub struct Residue(pub u64);
 
 // A number below the modulus n that stands for the one that it is 2^64 times, modulo n.
-#[derive(Drop)]
+#[derive(Clone, Copy)]
 pub struct MontgomeryResidue(pub u64);
 
 // A quotient modulo 2^128, and how many squarings it took.
-#[derive(Drop)]
+#[derive(Clone, Copy)]
 pub struct Quotient {
     pub value: Wide,
     pub squarings: u64,

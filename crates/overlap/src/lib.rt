@@ -1,5 +1,7 @@
 // Two digit strings with their positions, laid over each other: whether they agree where both have a digit, and the part
 // of the one that reaches further.
+#![tactic(auto)]
+
 ghost use Rattle.std.specs.Prelude.{◌≡◌, true, ◌&&◌, [], ◌∷◌, ◌++◌, ◌^◌, ◌<◌, length};
 ghost use Rattle.words.specs.Bytes.{bytes_of};
 ghost use Rattle.run.specs.Call.{Does, answered};

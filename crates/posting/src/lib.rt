@@ -1,4 +1,6 @@
 // Posting a sheet: all of its tickets, or none.
+#![tactic(auto)]
+
 ghost use Rattle.std.specs.Prelude.{◌≡◌, true, ◌+◌, ◌*◌, ◌≤◌, length};
 ghost use mathlib.Core.List.{[], ◌∷◌, foldl};
 ghost use Rattle.series.specs.Names.{formula_of};

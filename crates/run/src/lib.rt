@@ -1,4 +1,6 @@
 // Runs, blocks and tickets, and the refusal table.
+#![tactic(auto)]
+
 ghost use Rattle.std.specs.Prelude.{◌≡◌, ◌^◌, ◌≤◌, ◌<◌};
 ghost use Rattle.series.specs.Names.{formula_of};
 ghost use Rattle.run.specs.Refusal.{tested};
@@ -10,7 +12,7 @@ ghost use Rattle.run.specs.Answers.{number_of, answer_of};
 use series::Series;
 
 // The refusals, in the order of their numbers: those of document 01 from 1 to 9, those of document 02 from 10 on.
-#[derive(Drop)]
+#[derive(Clone, Copy)]
 pub enum Refusal {
     WrongSize,
     OutOfRange,
@@ -28,7 +30,7 @@ pub enum Refusal {
 }
 
 // What a call answers: its value (0, or the length, e or d), or a refusal.
-#[derive(Drop)]
+#[derive(Clone, Copy)]
 pub enum Answer {
     Finished(u32),
     Refused(Refusal),

@@ -7,7 +7,7 @@ ghost use Rattle.series.specs.Names.{formula_of, row_of};
 use crate::Series;
 
 // The numbers of a row: m, j, 128 + l, and whether its sign is +.
-#[derive(Drop)]
+#[derive(Clone, Copy)]
 pub struct Row {
     pub m: u64,
     pub j: u64,

@@ -120,7 +120,7 @@ pub fn group_sum(numbers: Numbers, k: u64) -> Worked
 }
 
 // What working the next terms of a range gives, and how many they are.
-#[derive(Drop)]
+#[derive(Clone, Copy)]
 pub struct Part {
     pub worked: Worked,
     pub count: u64,

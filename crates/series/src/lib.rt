@@ -1,4 +1,6 @@
 // A formula as a value: its rows, the terms of a row and their sums.
+#![tactic(auto)]
+
 pub mod formula;
 pub mod groups;
 pub mod halves;
@@ -7,7 +9,7 @@ pub mod store;
 pub mod terms;
 
 // The formulas that the engine works by. `formula_of` of the specifications says what each stands for.
-#[derive(Drop)]
+#[derive(Clone, Copy)]
 pub enum Series {
     Bellard,
     Check,

@@ -13,7 +13,7 @@ use words::Wide;
 
 // What the terms of a row at a position are worked by: E of term k is rise - step * k, N is m * k + j; whether the even terms are added, and
 // the odd ones. All of it is known before the first term, so that no term asks for the formula.
-#[derive(Drop)]
+#[derive(Clone, Copy)]
 pub struct Numbers {
     pub rise: u64,
     pub step: u64,
@@ -24,7 +24,7 @@ pub struct Numbers {
 }
 
 // What working a range of terms gives: their signed sum modulo 2^128, and how many squarings were made.
-#[derive(Drop)]
+#[derive(Clone, Copy)]
 pub struct Worked {
     pub sum: Wide,
     pub squarings: Wide,

@@ -1,4 +1,6 @@
 // The sheet of all tickets that stand: what is marked in a ledger, with the sums that the book keeps.
+#![tactic(auto)]
+
 ghost use Rattle.std.specs.Prelude.{◌≡◌, [], ◌∷◌, ◌++◌, ◌+◌, ◌*◌, ◌≤◌, ◌<◌, length, take, drop};
 ghost use Rattle.series.specs.Names.{formula_of};
 ghost use Rattle.run.specs.Run.{limits_of};

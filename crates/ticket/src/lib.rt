@@ -1,4 +1,6 @@
 // Working a ticket: the sum of a block of a row's terms, or of one half of them, with the squarings that it takes; and a quote of these alone.
+#![tactic(auto)]
+
 ghost use Rattle.std.specs.Prelude.{◌≡◌, [], ◌∷◌, true, ◌<◌};
 ghost use Rattle.words.specs.Words.{joined};
 ghost use Rattle.series.specs.Names.{formula_of};
@@ -15,7 +17,7 @@ use series::terms::Worked;
 use words::Wide;
 
 // Which of a ticket's terms are worked: all of them, or those below or from the cut on.
-#[derive(Drop)]
+#[derive(Clone, Copy)]
 pub enum Part {
     Whole,
     Lower,
@@ -23,7 +25,7 @@ pub enum Part {
 }
 
 // Terms from `first` up to, not including, `end`.
-#[derive(Drop)]
+#[derive(Clone, Copy)]
 pub struct Range {
     pub first: u64,
     pub end: u64,

@@ -1,5 +1,7 @@
 // Prints figures of terms, blocks and tickets, one to a line: those of Bellard's formula, then those of check runs. What it must print was
 // worked out by another program, from documents 01 and 02 alone.
+#![tactic(auto)]
+
 mod checks;
 mod show;
 

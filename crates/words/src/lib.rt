@@ -1,10 +1,12 @@
 // Arithmetic of one and of two words, and little-endian numbers in bytes.
+#![tactic(auto)]
+
 ghost use Rattle.std.specs.Prelude.{◌≡◌, ◌+◌, ◌*◌, ◌/◌, ◌%◌, ◌^◌, ◌≤◌, ◌++◌, length, take, drop, replicate, ◌==◌, nat_lt};
 ghost use Rattle.words.specs.Words.{joined};
 ghost use Rattle.words.specs.Bytes.{bytes_of, field};
 
 // A number of two words.
-#[derive(Drop)]
+#[derive(Clone, Copy)]
 pub struct Wide {
     pub hi: u64,
     pub lo: u64,

@@ -1,4 +1,6 @@
 // Writing a sheet: the tickets of a list are worked, in order.
+#![tactic(auto)]
+
 ghost use Rattle.std.specs.Prelude.{◌≡◌, true, [], ◌∷◌, ◌++◌, ◌+◌, ◌*◌, ◌≤◌, length, take, drop};
 ghost use Rattle.series.specs.Names.{formula_of};
 ghost use Rattle.run.specs.Run.{limits_of, in_range};

@@ -1,1 +1,2 @@
 // Wrong engines written down, and that each parts from the engine: see specs/.
+#![tactic(auto)]
