@@ -40,6 +40,7 @@ in_product r (suc L) k h = go (ltb k L) refl (in_product r L k)
 
 in_products : (rs : List Row) (L : ℕ) (r : Row) → Memᴰ r rs → (c : ℕ) × (products rs L ≡ product r L * c)
 unfolding products
+in_products [] L r m = elim m [ ]
 in_products (x ∷ rs) L r (Memᴰ.head e) = (products rs L, ap (λ (y : Row). product y L * products rs L) (sym e))
 in_products (x ∷ rs) L r (Memᴰ.tail m) =
     let i = in_products rs L r m in

@@ -8,10 +8,9 @@ use native.Mathlib.Omega.{arith}
 use borrow.Author.Tests.{eq-eqb, ne_eqb}
 use lib.IntN.{ℤ, pos, negsuc}
 use lib.ListN.{length, drop, length-drop}
-use base.Fml.{GName}
-use denote.Ref.{Bor, MutBor}
+use denote.Ref.{Bor}
 use borrow.Rule.Slice.Shared.{by_byte}
-use borrow.Rule.Slice.PartAt.{sl_part}
+use borrow.Rule.Slice.PartAt.{sl_partˢ}
 use borrow.Author.Rules.{part_to_end}
 use Rattle.algebra.proofs.Booleans.{and_left, and_right, and_both}
 use Rattle.words.specs.Bytes.{bytes_of}
@@ -98,8 +97,8 @@ module _ (a b : Laid) (e : refused_with a b ≡ 0) where
 -- ---- the part as a slice
 
 -- what the code makes of a slice and a place in it
-pub rest_of : (s : MutBor (List ℕ)) (at : ℕ) (γ : GName) → at ≤ length s.now → IsRest s at (sl_part s (by_byte at s.ref_ptr.1) at (length s.now) γ)
-rest_of s at γ h = record { within = h; block = refl; offset = omega arith; bytes = part_to_end s.now at }
+pub rest_of : (s : Bor (List ℕ)) (at : ℕ) → at ≤ length s.now → IsRest s at (sl_partˢ s (by_byte at s.ref_ptr.1) at (length s.now))
+rest_of s at h = record { within = h; block = refl; offset = omega arith; bytes = part_to_end s.now at }
 
 module _ (first second r : Bor (List ℕ)) (p q : ℕ) where
   abbrev one : Laid

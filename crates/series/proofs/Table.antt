@@ -1,7 +1,7 @@
 -- The rule of the tables of rows, proved over all rows of a formula by one test that antt computes, and given at each row: what
 -- the code's arithmetic needs of a row's numbers.
 -- Assumes nothing.
-use Rattle.std.proofs.Common.{◌≡◌, ℕ, suc, ◌%◌, ◌^◌, ◌<◌, Bool, true, ◌&&◌, eqb, ltb, leb, List, ◌∷◌, length, get_or, sym, refl, subst, arith, ltb-true, eqb-true, leb-true}
+use Rattle.std.proofs.Common.{◌≡◌, ℕ, suc, ◌%◌, ◌^◌, ◌<◌, Bool, true, ◌&&◌, eqb, ltb, leb, List, [], ◌∷◌, length, get_or, sym, refl, subst, arith, ltb-true, eqb-true, leb-true}
 use mathlib.Core.List.{Memᴰ}
 use Rattle.algebra.specs.Test.{all_below}
 use Rattle.algebra.proofs.Below.{all_at}
@@ -41,6 +41,7 @@ rule F r e =
 
 -- a row of a list has a number in it
 numbered : (rs : List Row) (z r : Row) → Memᴰ r rs → (i : ℕ) × (i < length rs) × (get_or rs i z ≡ r)
+numbered [] z r m = elim m [ ]
 numbered (x ∷ rs) z r (Memᴰ.head e) = (0, omega arith, sym e)
 numbered (x ∷ rs) z r (Memᴰ.tail m) = let n = numbered rs z r m in (suc n.0, omega (arith, n.1), n.2)
 
