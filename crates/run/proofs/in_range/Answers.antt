@@ -3,12 +3,10 @@
 use mathlib.Core.Path.{◌≡◌, refl}
 use mathlib.Core.Bool.{false}
 use Prim.Native.Nat.{ℕ, ◌≤◌, ◌<◌}
-use borrow.Author.Rules.{rules}
 use borrow.Author.Tests.{lt-leb, le-leb}
 use lib.Dec.{leb}
 use Rattle.run.specs.Run.{Limits, in_range}
-use Rattle.run.proofs.in_range.Statement.{statement}
-use Rattle.run.proofs.in_range.Tie as tie
+use Rattle.run.proofs.in_range.Goals as goal
 
 module _ (lim : Limits) (p C last : ℕ) (e : last ≡ lim.last) where
   none : p < 1 → false ≡ in_range lim p C
@@ -27,22 +25,16 @@ module _ (lim : Limits) (p C last : ℕ) (e : last ≡ lim.last) where
   unfolding in_range
   few_blocks h l m = rw (le-leb 1 p h, le-leb p lim.last (rw e at l), le-leb 1 C m) refl
 
-returns : tie.Need-returns
-returns c = none _ _ _ _ refl c.if1.true
+pub returns-then-p-lt1 : goal.returns-then-p-lt1
+returns-then-p-lt1 c = none _ _ _ _ refl c.if-p-lt1.true
 
-last-position-requires : tie.Need-last-position-requires
-last-position-requires c κs = search rules
+pub returns-then-last_position-p : goal.returns-then-last_position-p
+returns-then-last_position-p c = beyond _ _ _ _ c.last_position.ensures c.if-p-lt1.false c.if-last_position-p.true
 
-returns-2 : tie.Need-returns-2
-returns-2 c = beyond _ _ _ _ c.before.last_position.ensures c.before.before.if1.false c.if2.true
+pub returns-then-c-lt1 : goal.returns-then-c-lt1
+returns-then-c-lt1 c =
+    no_block _ _ _ _ c.last_position.ensures c.if-p-lt1.false c.if-last_position-p.false c.if-c-lt1.true
 
-returns-3 : tie.Need-returns-3
-returns-3 c =
-    no_block _ _ _ _ c.before.before.last_position.ensures c.before.before.before.if1.false c.before.if2.false c.if3.true
-
-returns-4 : tie.Need-returns-4
-returns-4 c =
-    few_blocks _ _ _ _ c.before.before.last_position.ensures c.before.before.before.if1.false c.before.if2.false c.if3.false
-
-pub in-range-spec : {M : Type 1} → statement M
-in-range-spec = tie.close (tie.spec returns last-position-requires returns-2 returns-3 returns-4)
+pub returns : goal.returns
+returns c =
+    few_blocks _ _ _ _ c.last_position.ensures c.if-p-lt1.false c.if-last_position-p.false c.if-c-lt1.false

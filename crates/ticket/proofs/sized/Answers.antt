@@ -6,15 +6,11 @@ use Prim.Native.Nat.{ℕ}
 use lib.Dec.{eqb}
 use lib.ListN.{length}
 use Rattle.ticket.specs.Work.{is_sized}
-use Rattle.ticket.proofs.sized.Statement.{statement}
-use Rattle.ticket.proofs.sized.Tie as tie
+use Rattle.ticket.proofs.sized.Goals as goal
 
 law : (s : List ℕ) → eqb (length s) 16 ≡ is_sized s
 unfolding is_sized
 law s = refl
 
-returns : tie.Need-returns
+pub returns : goal.returns
 returns c = law _
-
-pub sized-spec : {M : Type 1} → statement M
-sized-spec = tie.close (tie.spec returns)

@@ -1,0 +1,34 @@
+-- `ticket::sum` meets its contract, which is that of the two functions that work a range, over the part's terms.
+-- Assumes nothing.
+use mathlib.Core.Path.{◌≡◌}
+use Prim.Native.Nat.{ℕ, ◌-◌}
+use Rattle.series.specs.Series.{Formula, row_at, range_sum}
+use Rattle.series.specs.Squarings.{range_squarings}
+use Rattle.run.proofs.Range.{ticket_block}
+use Rattle.ticket.specs.Parts.{part_first, part_end, part_sum, part_squarings}
+use Rattle.ticket.specs.declared.Part.{Part}
+use Rattle.ticket.proofs.Parts.{ranged}
+use Rattle.ticket.proofs.sum.Goals as goal
+
+law : (F : Formula) (part : Part) (p C row block first end s q : ℕ) → (first ≡ part_first F part p C block) × (end ≡ part_end F part p C block)
+    → (s ≡ range_sum F p (row_at F row) first (end - first)) × (q ≡ range_squarings F p (row_at F row) first (end - first))
+    → (s ≡ part_sum F part p C row block) × (q ≡ part_squarings F part p C row block)
+unfolding part_sum part_squarings
+law F part p C row block first end s q e h = rw (e.0, e.1) at h
+
+pub range_of-range-requires : goal.range_of-range-requires
+range_of-range-requires c = (c.requires.0, ticket_block _ _ _ _ c.requires.1)
+
+pub range_sum-requires : goal.range_sum-requires
+range_sum-requires c =
+    ranged _ c.args.part _ _ _ _ _ _ c.requires.0 c.requires.1 c.range_of-range.ensures.0 c.range_of-range.ensures.1
+
+pub range_sum-requires-in_default : goal.range_sum-requires-in_default
+range_sum-requires-in_default c =
+    ranged _ c.args.part _ _ _ _ _ _ c.requires.0 c.requires.1 c.range_of-range.ensures.0 c.range_of-range.ensures.1
+
+pub returns-in-Whole : goal.returns-in-Whole
+returns-in-Whole c = law _ _ _ _ _ _ _ _ _ _ c.range_of-range.ensures c.range_sum.ensures
+
+pub returns-in_default : goal.returns-in_default
+returns-in_default c = law _ _ _ _ _ _ _ _ _ _ c.range_of-range.ensures c.range_sum-in_default.ensures
