@@ -3,12 +3,10 @@
 use mathlib.Core.Path.{◌≡◌, refl, ◌∙◌}
 use mathlib.Core.List.{List, ◌++◌}
 use Prim.Native.Nat.{ℕ, ◌+◌}
-use borrow.Author.Rules.{rules}
 use lib.ListN.{take, drop}
 use Rattle.words.specs.Bytes.{bytes_of}
 use Rattle.words.proofs.Bytes.{write_next}
-use Rattle.sheet.proofs.layout.put_head.Statement.{statement}
-use Rattle.sheet.proofs.layout.put_head.Tie as tie
+use Rattle.sheet.proofs.layout.put_head.Goals as goal
 
 law : (p C e : ℕ) (s s₁ s₂ s₃ s₄ : List ℕ) → s₁ ≡ take 0 s ++ bytes_of 8 p ++ drop (0 + 8) s → s₂ ≡ take 8 s₁ ++ bytes_of 2 C ++ drop (8 + 2) s₁
     → s₃ ≡ take 10 s₂ ++ bytes_of 2 e ++ drop (10 + 2) s₂ → s₄ ≡ take 12 s₃ ++ bytes_of 4 0 ++ drop (12 + 4) s₃
@@ -19,31 +17,6 @@ law p C e s s₁ s₂ s₃ s₄ e₁ e₂ e₃ e₄ =
     let d₃ = e₃ ∙ write_next (bytes_of 8 p ++ bytes_of 2 C) s s₂ (bytes_of 2 e) 10 2 refl d₂ in
     e₄ ∙ write_next (bytes_of 8 p ++ bytes_of 2 C ++ bytes_of 2 e) s s₃ (bytes_of 4 0) 12 4 refl d₃
 
-put-requires : tie.Need-put-requires
-put-requires c κs = search rules
-
-put-requires-2 : tie.Need-put-requires-2
-put-requires-2 c κs = search rules
-
-put-requires-3 : tie.Need-put-requires-3
-put-requires-3 c κs = search rules
-
-put-requires-4 : tie.Need-put-requires-4
-put-requires-4 c κs = search rules
-
-same_length : tie.Need-same-length
-same_length c = search rules
-
-returns : tie.Need-returns
+pub returns : goal.returns
 returns c =
-    let fourth = c.before.before in
-    let third = fourth.before.before.before.before in
-    let second = third.before.before.before.before in
-    let first = second.before.before.before.before in
-    let start = first.before.before.before in
-    law _ _ _ start.args.out.now _ _ _ _ first.put.ensures second.put2.ensures third.put3.ensures fourth.put4.ensures
-
-pub put-head-spec : {M : Type 1} → statement M
-put-head-spec =
-    tie.close
-    (tie.spec put-requires put-requires-2 put-requires-3 put-requires-4 same_length returns)
+    law _ _ _ c.args.out.now _ _ _ _ c.put.ensures c.put-2.ensures c.put-3.ensures c.put-4.ensures

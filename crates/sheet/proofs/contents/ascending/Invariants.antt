@@ -1,0 +1,14 @@
+-- `sheet::contents::ascending` meets its contract: at each turn every entry passed is below the next.
+-- Assumes nothing.
+use mathlib.Core.Path.{◌≡◌}
+use mathlib.Core.Bool.{true}
+use Prim.Native.Nat.{◌≤◌, ◌-◌}
+use Rattle.algebra.specs.Test.{all_below}
+use Rattle.sheet.proofs.Each.{rises}
+use Rattle.sheet.proofs.contents.ascending.Given as goal
+
+abbrev pub invariant-loop-i : goal.invariant-loop-i
+invariant-loop-i l = (l.i ≤ l.e) × (all_below l.i (rises l.s) ≡ true)
+
+abbrev pub decreases-loop-i : goal.decreases-loop-i
+decreases-loop-i l = l.e - l.i

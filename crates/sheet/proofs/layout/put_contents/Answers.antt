@@ -1,0 +1,64 @@
+-- `sheet::layout::put_contents` meets its contract: after i turns the contents of i tickets stand over the output.
+-- Assumes nothing.
+use mathlib.Core.Path.{◌≡◌, refl, sym, ap, ◌∙◌}
+use mathlib.Core.List.{List, ◌++◌}
+use Prim.Native.Nat.{ℕ, ◌+◌, ◌*◌, ◌≤◌, ◌<◌}
+use native.Mathlib.Omega.{arith}
+use borrow.Author.Rules.{rules}
+use lib.ListN.{length, take, drop}
+use Rattle.series.specs.Series.{Formula}
+use Rattle.run.specs.Run.{Entry}
+use Rattle.sheet.specs.Sheet.{line, contents_of, listed}
+use Rattle.sheet.proofs.Over.{contents, start, turn, finish}
+use Rattle.sheet.proofs.Each.{pair_row, pair_block, count, pair_at}
+use Rattle.sheet.proofs.layout.put_contents.Invariants.{Written}
+use Rattle.sheet.proofs.layout.put_contents.Goals as goal
+
+module _ (list old : List ℕ) (e : ℕ) (size : length list ≡ 2 * e) where
+  first : Written list old old 0
+  first F p C = start contents (listed F p C list) old 16
+
+  next : (l m : List ℕ) (i : ℕ) → 16 ≤ length old → i < e → Written list old l i
+      → m ≡ take (16 + 4 * i) l ++ line (pair_row list i) (pair_block list i) ++ drop (16 + 4 * i + 4) l → Written list old m (i + 1)
+  next l m i room h el em F p C =
+      turn contents (listed F p C list) old 16 l m (line (pair_row list i) (pair_block list i)) i (16 + 4 * i) room (omega (arith, count F p C list e size)) refl
+      (ap (λ (t : Entry). line t.row t.block) (sym (pair_at F p C list e size i h))) (el F p C) em
+
+  last : (l : List ℕ) (i : ℕ) → i ≡ e → Written list old l i → (F : Formula) (p C : ℕ)
+      → l ≡ take 16 old ++ contents_of (listed F p C list) ++ drop (16 + 4 * e) old
+  last l i q el F p C =
+      finish contents (listed F p C list) old 16 l i (count F p C list e size ∙ sym q) (el F p C)
+      ∙ ap (λ (n : ℕ). take 16 old ++ contents_of (listed F p C list) ++ drop (16 + 4 * n) old) q
+
+pub loop-i-init : goal.loop-i-init
+loop-i-init c =
+    (omega arith, refl, first c.args.list.now c.args.out.now c.args.e c.requires.0)
+
+pub overflow_cast-list : goal.overflow_cast-list
+overflow_cast-list c = omega (arith, c.type_inv.list (2 * c.loop-i.i + 1))
+
+pub overflow_cast-list-in-loop-i : goal.overflow_cast-list-in-loop-i
+overflow_cast-list-in-loop-i c = omega (arith, c.type_inv.list (2 * c.loop-i.i))
+
+pub put_line-requires : goal.put_line-requires
+put_line-requires c =
+    let i = c.loop-i.i in
+    let row = (c.type_inv.list (2 * i + 1)).fits in
+    let block = (c.type_inv.list (2 * i)).fits in
+    (row, omega (arith, block), omega arith)
+
+pub loop-i-preserved : goal.loop-i-preserved
+loop-i-preserved c = (
+  omega arith,
+  search rules,
+  next c.args.list.now c.args.out.now c.args.e c.requires.0 _ _ _ (omega arith) c.loop-i-test.true
+      c.loop-i.invariant.2 c.put_line.ensures,
+)
+
+pub shape_of-out : goal.shape_of-out
+shape_of-out c = c.loop-i.invariant.1
+
+pub returns : goal.returns
+returns c =
+    let e : c.loop-i.i ≡ c.args.e = omega arith in
+    last c.args.list.now c.args.out.now c.args.e c.requires.0 _ _ e c.loop-i.invariant.2

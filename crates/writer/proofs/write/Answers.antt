@@ -1,0 +1,28 @@
+-- `writer::write` meets its contract: where the output is written no test applied, and where one applies nothing is written.
+-- Assumes nothing.
+use native.Mathlib.Omega.{arith}
+use Rattle.writer.proofs.WriteTests.{none_applied, written, not_written}
+use Rattle.writer.proofs.write.Goals as goal
+
+pub put_head-requires : goal.put_head-requires
+put_head-requires c =
+    let h = none_applied _ _ _ _ _ _ c.test_write.ensures _ c.in-Finished.is in
+    omega (arith, h.room)
+
+pub put_contents-requires : goal.put_contents-requires
+put_contents-requires c =
+    let h = none_applied _ _ _ _ _ _ c.test_write.ensures _ c.in-Finished.is in
+    (omega (arith, h.even), omega (arith, h.room))
+
+pub put_bodies-requires : goal.put_bodies-requires
+put_bodies-requires c =
+    let h = none_applied _ _ _ _ _ _ c.test_write.ensures _ c.in-Finished.is in
+    (omega (arith, h.even), omega (arith, h.room), h.range, h.tickets)
+
+pub returns-in-Finished : goal.returns-in-Finished
+returns-in-Finished c =
+    written _ _ _ _ _ _ c.test_write.ensures _ _ _ _ c.in-Finished.is c.put_head.ensures
+    (c.put_contents.ensures _ _ _) c.put_bodies.ensures
+
+pub returns-in-Refused : goal.returns-in-Refused
+returns-in-Refused c = not_written _ _ _ _ _ _ c.test_write.ensures _ c.in-Refused.is
