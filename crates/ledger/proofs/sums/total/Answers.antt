@@ -1,0 +1,24 @@
+-- `ledger::sums::total` meets its contract: after each turn the sums of the rows passed are added up, modulo 2 ^ 128.
+-- Assumes nothing.
+use mathlib.Core.Path.{◌≡◌}
+use native.Mathlib.Nat.{zero-add}
+use native.Mathlib.Omega.{arith}
+use Rattle.algebra.specs.Sum.{sum}
+use Rattle.algebra.proofs.Sums.{total_next}
+use Rattle.series.specs.Series.{modulus}
+use Rattle.ledger.specs.RowSums.{value_at}
+use Rattle.ledger.proofs.RowSums.{none_totalled}
+use Rattle.ledger.proofs.sums.total.Goals as goal
+
+pub loop-row-init : goal.loop-row-init
+loop-row-init c = (omega arith, none_totalled _)
+
+pub loop-row-preserved : goal.loop-row-preserved
+unfolding value_at
+loop-row-preserved c =
+    (omega arith, total_next modulus (value_at c.args.sums) 0 _ _ _ c.loop-row.invariant.1 c.add-total.ensures)
+
+pub returns : goal.returns
+returns c =
+    let e : c.loop-row.row ≡ 7 = omega arith in
+    rw (e, zero-add (sum (value_at c.args.sums) 0 7)) at c.loop-row.invariant.1

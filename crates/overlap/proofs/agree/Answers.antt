@@ -1,0 +1,29 @@
+-- `overlap::agree` meets its contract. The loop's invariant: the strings agree before position n.
+-- Assumes nothing.
+use mathlib.Core.Path.{sym, ◌∙◌}
+use Rattle.overlap.proofs.Strings.{holds_at, agree_start, agree_next, agree_past, agree_stops, agree_all}
+use Rattle.overlap.proofs.agree.Goals as goal
+
+pub loop-n-init : goal.loop-n-init
+loop-n-init c = agree_start _ _
+
+pub digit_at-requires : goal.digit_at-requires
+digit_at-requires c = holds_at _ _ c.loop-n.invariant.from c.loop-n-test.true
+
+pub digit_at-requires-then-holds : goal.digit_at-requires-then-holds
+digit_at-requires-then-holds c = sym c.holds.ensures ∙ c.if-holds.true
+
+pub returns-then-digit_at : goal.returns-then-digit_at
+returns-then-digit_at c =
+    agree_stops _ _ _ c.loop-n.invariant c.loop-n-test.true (sym c.holds.ensures ∙ c.if-holds.true)
+    (λ e. c.if-digit_at.true (c.digit_at.ensures ∙ e ∙ sym c.digit_at-then-holds.ensures))
+
+pub loop-n-preserved-else-digit_at : goal.loop-n-preserved-else-digit_at
+loop-n-preserved-else-digit_at c =
+    agree_next _ _ _ c.loop-n.invariant (sym c.holds.ensures ∙ c.if-holds.true) (sym c.digit_at.ensures ∙ c.if-digit_at.false ∙ c.digit_at-then-holds.ensures)
+
+pub loop-n-preserved : goal.loop-n-preserved
+loop-n-preserved c = agree_past _ _ _ c.loop-n.invariant (sym c.holds.ensures ∙ c.if-holds.false)
+
+pub returns : goal.returns
+returns c = agree_all _ _ _ c.loop-n.invariant c.loop-n-test.false
