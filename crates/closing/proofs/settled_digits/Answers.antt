@@ -13,8 +13,7 @@ use Rattle.words.proofs.Joined.{joined_lt, joined_low}
 use Rattle.words.proofs.Order.{sub_exact, add_exact, add_over}
 use Rattle.digits.specs.Digits.{settled}
 use Rattle.digits.proofs.TopDigits.{negative_none, over_none}
-use Rattle.closing.proofs.settled_digits.Statement.{statement}
-use Rattle.closing.proofs.settled_digits.Tie as tie
+use Rattle.closing.proofs.settled_digits.Goals as goal
 
 -- where the lower end is not below 0, by the words of the sum s; M is 2 ^ 128
 module _ (M T a b s : ℕ) (M-is : M ≡ 2 ^ 128) (T-in : T < M) (a_in : a + 1 < M) (from_low : b + 1 ≤ T) (s-is : s ≡ (T + (a + 1)) % M) where
@@ -30,67 +29,30 @@ module _ (M T a b s : ℕ) (M-is : M ≡ 2 ^ 128) (T-in : T < M) (a_in : a + 1 <
       let s-exact : s ≡ T + a + 1 = omega (arith, add_exact M T (a + 1) s a_in s-is h) in
       rw (sub_pos T (b + 1) from_low, ← l-is, ← s-exact) v
 
-add-t6 : tie.Need-overflow-add-t6
-add-t6 c = search rules
+pub returns-then-is_less : goal.returns-then-is_less
+returns-then-is_less c =
+    let a = c.args in
+    let less = rw joined_low at c.is_less.ensures in
+    negative_none (joined a.total.hi a.total.lo) (a.b + 1) _ (ltb-true _ _ (sym less ∙ c.if-is_less.true))
 
-is-less-requires : tie.Need-is-less-requires
-is-less-requires c κs = search rules
-
-returns : tie.Need-returns
-returns c =
-    let a = c.before.before.args in
-    let less = rw joined_low at c.before.is-less.ensures in
-    negative_none (joined a.total.hi a.total.lo) (a.b + 1) _ (ltb-true _ _ (sym less ∙ c.if1.true))
-
-add-t6-2 : tie.Need-overflow-add-t6-2
-add-t6-2 c = search rules
-
-add-requires : tie.Need-add-requires
-add-requires c κs = search rules
-
-is-less-requires-2 : tie.Need-is-less-requires-2
-is-less-requires-2 c κs = search rules
-
-returns-2 : tie.Need-returns-2
-returns-2 c =
-    let a = c.before.before.before.before.before.args in
+pub returns-then-is_less-2 : goal.returns-then-is_less-2
+returns-then-is_less-2 c =
+    let a = c.args in
     let h : (a.total.hi < 2 ^ 64) × (a.total.lo < 2 ^ 64) × (a.a + 1 < 2 ^ 64) = search rules in
-    let less = rw joined_low at c.before.before.before.before.is-less.ensures in
+    let less = rw joined_low at c.is_less.ensures in
     wraps (2 ^ 128) (joined a.total.hi a.total.lo) a.a a.b _ refl (joined_lt _ _ h.0 h.1)
     (rw joined_low at (joined_lt 0 (a.a + 1) (omega arith) h.2))
-    (ltb-false _ _ (sym less ∙ c.before.before.before.if1.false)) (rw joined_low at c.before.before.add.ensures)
-    (ltb-true _ _ (sym c.before.is-less2.ensures ∙ c.if2.true))
+    (ltb-false _ _ (sym less ∙ c.if-is_less.false)) (rw joined_low at c.add-high.ensures)
+    (ltb-true _ _ (sym c.is_less-2.ensures ∙ c.if-is_less-2.true))
 
-sub-requires : tie.Need-sub-requires
-sub-requires c κs = search rules
-
-shared-digits-requires : tie.Need-shared-digits-requires
-shared-digits-requires c κs = search rules
-
-returns-3 : tie.Need-returns-3
-returns-3 c =
-    let t = c.before.before in
-    let a = t.before.before.before.before.before.args in
+pub returns : goal.returns
+returns c =
+    let a = c.args in
     let h : (a.total.hi < 2 ^ 64) × (a.total.lo < 2 ^ 64) × (a.a + 1 < 2 ^ 64) = search rules in
-    let l : (c.before.sub.result.hi < 2 ^ 64) × (c.before.sub.result.lo < 2 ^ 64) = search rules in
-    let less = rw joined_low at t.before.before.before.before.is-less.ensures in
+    let l : (c.sub.result.hi < 2 ^ 64) × (c.sub.result.lo < 2 ^ 64) = search rules in
+    let less = rw joined_low at c.is_less.ensures in
     fits (2 ^ 128) (joined a.total.hi a.total.lo) a.a a.b _ refl (joined_lt _ _ h.0 h.1)
     (rw joined_low at (joined_lt 0 (a.a + 1) (omega arith) h.2))
-    (ltb-false _ _ (sym less ∙ t.before.before.before.if1.false)) (rw joined_low at t.before.before.add.ensures)
-    (ltb-false _ _ (sym t.before.is-less2.ensures ∙ t.if2.false)) _ _ (joined_lt _ _ l.0 l.1)
-    (rw joined_low at c.before.sub.ensures) c.shared_digits.ensures
-
-pub settled-digits-spec : {M : Type 1} → statement M
-settled-digits-spec =
-    tie.close
-    (tie.spec
-    add-t6
-    is-less-requires
-    returns
-    add-t6-2
-    add-requires
-    is-less-requires-2
-    returns-2
-    sub-requires
-    shared-digits-requires
-    returns-3)
+    (ltb-false _ _ (sym less ∙ c.if-is_less.false)) (rw joined_low at c.add-high.ensures)
+    (ltb-false _ _ (sym c.is_less-2.ensures ∙ c.if-is_less-2.false)) _ _ (joined_lt _ _ l.0 l.1)
+    (rw joined_low at c.sub.ensures) c.shared_digits.ensures

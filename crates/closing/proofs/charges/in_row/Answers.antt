@@ -4,7 +4,6 @@ use mathlib.Core.Path.{◌≡◌, refl, ap, ap₂, ◌∙◌}
 use mathlib.Core.Bool.{Bool, true, false, beq, cond, not}
 use Prim.Native.Nat.{ℕ, ◌+◌, ◌/◌, ◌^◌, ◌≤◌, ◌<◌}
 use native.Mathlib.Omega.{arith}
-use borrow.Author.Rules.{rules}
 use Rattle.series.specs.Series.{Formula, Row, row_count, row_at, is_added, on_side, plus, minus}
 use Rattle.series.specs.Fitting.{Position}
 use Rattle.series.specs.Names.{formula_of, numbers_of}
@@ -15,8 +14,7 @@ use Rattle.series.proofs.Table.{fitting}
 use Rattle.interval.specs.Counts.{charged_in, side_count}
 use Rattle.interval.proofs.Charged.{before_k}
 use Rattle.closing.proofs.Closing.{count_small}
-use Rattle.closing.proofs.charges.in_row.Statement.{statement}
-use Rattle.closing.proofs.charges.in_row.Tie as tie
+use Rattle.closing.proofs.charges.in_row.Goals as goal
 
 -- a term is on a side if its sign is that side's
 same_side : (F : Formula) (r : Row) (k : ℕ) (added : Bool) → beq (is_added F r k) added ≡ on_side F (cond added plus minus) r k
@@ -65,62 +63,31 @@ module _ (f : Series) (p row : ℕ) (n : Numbers) (is : n ≡ numbers_of (formul
       ∙ ap₂ (λ (b d : Bool). cond b ((count + 1) / 2) 0 + cond d (count / 2) 0) (same_side F r 0 added) (same_side F r 1 added)
       ∙ ap (λ (c : ℕ). cond (on_side F (cond added plus minus) r 0) ((c + 1) / 2) 0 + cond (on_side F (cond added plus minus) r 1) (c / 2) 0) count_is
 
-numbers-of-requires : tie.Need-numbers-of-requires
-numbers-of-requires c κs = search rules
+pub nonzero_div-count : goal.nonzero_div-count
+nonzero_div-count c =
+    let a = c.args in
+    step-some a.f a.p a.row _ c.numbers_of-numbers.ensures
 
-div-count : tie.Need-nonzero-div-count
-div-count c =
-    let a = c.before.before.args in
-    step-some a.f a.p a.row _ c.before.Numbers-of.ensures
-
-add-count : tie.Need-overflow-add-count
-add-count c =
-    let s = c.before.before in
-    let a = s.args in
-    let h = few a.f a.p a.row _ c.before.Numbers-of.ensures s.requires.0 s.requires.1 in
+pub overflow_add-count : goal.overflow_add-count
+overflow_add-count c =
+    let a = c.args in
+    let h = few a.f a.p a.row _ c.numbers_of-numbers.ensures c.requires.0 c.requires.1 in
     record { fits = omega (arith, h) }
 
-add-on-side : tie.Need-overflow-add-on-side
-add-on-side c =
-    let s = c.before.before.before in
-    let a = s.args in
-    let h = few a.f a.p a.row _ c.before.before.Numbers-of.ensures s.requires.0 s.requires.1 in
+pub overflow_add-count-2 : goal.overflow_add-count-2
+overflow_add-count-2 c =
+    let a = c.args in
+    let h = few a.f a.p a.row _ c.numbers_of-numbers.ensures c.requires.0 c.requires.1 in
     record { fits = omega (arith, h) }
 
-on-side-requires : tie.Need-on-side-requires
-on-side-requires c κs = search rules
+pub overflow_add-result : goal.overflow_add-result
+overflow_add-result c =
+    let a = c.args in
+    let h = few a.f a.p a.row _ c.numbers_of-numbers.ensures c.requires.0 c.requires.1 in
+    record { fits = omega (arith, h, c.on_side.ensures.small, c.on_side-2.ensures.small) }
 
-on-side-requires-2 : tie.Need-on-side-requires-2
-on-side-requires-2 c κs = search rules
-
-add-result : tie.Need-overflow-add-result
-add-result c =
-    let at = c.before.before.before.before.before in
-    let s = at.before in
-    let a = s.args in
-    let h = few a.f a.p a.row _ at.Numbers-of.ensures s.requires.0 s.requires.1 in
-    record { fits = omega (arith, h, c.before.before.on-side.ensures.1, c.on-side2.ensures.1) }
-
-returns : tie.Need-returns
+pub returns : goal.returns
 returns c =
-    let at = c.before.before.before.before.before in
-    let s = at.before in
-    let a = s.args in
-    let even = c.before.before.on-side.ensures in
-    let odd = c.on-side2.ensures in
-    let is = at.Numbers-of.ensures in
-    let h = few a.f a.p a.row _ is s.requires.0 s.requires.1 in
-    (ap₂ ◌+◌ even.0 odd.0 ∙ counted a.f a.p a.row _ is a.added, omega (arith, h, even.1, odd.1))
-
-pub in-row-spec : {M : Type 1} → statement M
-in-row-spec =
-    tie.close
-    (tie.spec
-    numbers-of-requires
-    div-count
-    add-count
-    add-on-side
-    on-side-requires
-    on-side-requires-2
-    add-result
-    returns)
+    let a = c.args in
+    let h = few a.f a.p a.row _ c.numbers_of-numbers.ensures c.requires.0 c.requires.1 in
+    record { counts = ap₂ ◌+◌ c.on_side.ensures.counts c.on_side-2.ensures.counts ∙ counted a.f a.p a.row _ c.numbers_of-numbers.ensures a.added; small = omega (arith, h, c.on_side.ensures.small, c.on_side-2.ensures.small) }
