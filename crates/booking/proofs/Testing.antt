@@ -5,7 +5,7 @@ use mathlib.Core.Bool.{Bool, true, false, not, ◌&&◌}
 use mathlib.Core.List.{List, [], ◌∷◌, ◌++◌}
 use Prim.Native.Nat.{ℕ, suc, ◌+◌, ◌≤◌, ◌<◌}
 use native.Mathlib.Omega.{arith}
-use borrow.Author.Tests.{eqb-true, eq-eqb, ne_eqb, not-false}
+use borrow.Author.Tests.{eq-eqb, ne_eqb, not-false}
 use lib.Dec.{eqb}
 use lib.IntN.{pos, negsuc}
 use lib.ListN.{length}
@@ -23,7 +23,7 @@ use Rattle.run.specs.declared.Answer.TheVariants.{Finished, Refused}
 use Rattle.run.specs.Call.{Call, refused_by, answered, Does}
 use Rattle.run.proofs.Testing.{Left, here, past, none_left, part_here, part_past, part_passes, passed, ticket_passed}
 use Rattle.run.proofs.Calls.{finishes, was_worked, turned_down}
-use Rattle.ledger.specs.Ledger.{View, ledger_size, mark_at, bit_in, mark_in, enter, Enterable}
+use Rattle.ledger.specs.Ledger.{View, mark_at, bit_in, mark_in, enter, Enterable}
 use Rattle.ledger.specs.Calls.{of_ledger, of_marks, post_tests}
 use Rattle.ledger.proofs.Posting.{Shows, Place, place, ledger_passed, PostTaken, post_taken, may_enter, sum_read}
 use Rattle.book.specs.Book.{book_size, kept_at, kept_in, view_with, keep, remove, Removable}
