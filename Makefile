@@ -15,7 +15,7 @@
 # make standin            the stand-in for the engine, in C: ENGINE=build/standin/libengine.a takes its place in any of
 #                         these but install
 # make vectors            tests/vectors.txt, written again by tools/vectors.py
-# make clean              removes what was built; finished tickets of published-long stay
+# make clean              removes what was built, and what rt keeps of proofs; finished tickets of published-long stay
 # make help               this list
 
 CC = gcc
@@ -43,10 +43,10 @@ SYMBOLS = $(CALLS:%=bbp_%) $(BELLARD_CALLS:%=bbp_%) $(DIGIT_CALLS:%=bbp_%) $(CAL
 quoted = '$(subst ','\'',$(1))'
 
 # Not for a command line to change: install goes by it.
-override PROVED = target/staticlib/libengine.a
+override PROVED = crates/engine/out/libengine.a
 STANDIN = build/standin/libengine.a
 ENGINE = $(PROVED)
-CLOSER = target/bin/closer
+CLOSER = crates/closer/out/closer
 # Programs linked with the one are kept apart from those linked with the other.
 OUT = build/$(if $(filter $(PROVED),$(ENGINE)),engine,standin)
 
@@ -155,16 +155,17 @@ vectors:
 	python3 tools/vectors.py >tests/vectors.txt
 
 clean:
-	rm -rf build target
+	rm -rf build crates/*/out
 
-# The engine and the closing program: proved, then written.
-SOURCES = crates.txt $(shell find crates -name '*.rt' -o -name '*.antt')
+# The engine and the closing program: proved, then written. In out/ are copies of sources, which are none of ours. A program that is up
+# to date rt leaves as it stands.
+SOURCES = crates.txt $(shell find crates -name out -prune -o \( -name '*.rt' -o -name '*.antt' \) -print)
 
 $(PROVED): $(SOURCES)
-	rt staticlib engine
+	cd crates/engine && rt lib
 
 $(CLOSER): $(SOURCES)
-	rt check closer
+	cd crates/closer && rt run <stdin >/dev/null
 	touch $@
 
 standin: $(STANDIN)

@@ -1,6 +1,7 @@
 #!/usr/bin/env bash
 # closer.sh PROGRAM - the closing program on the marked closings of documents 01 and 02, with the total in one row and
-# spread over the rows, on damaged ledgers, on ledgers of version 1.0.0 and of a check run, and on input of other sizes.
+# spread over the rows, on damaged ledgers, on ledgers of version 1.0.0 and of a check run, on input of other sizes, and
+# where it cannot read or write.
 set -eu
 program=$1
 checks=0
@@ -69,11 +70,26 @@ try() {
     checks=$((checks + 1))
 }
 
+# fails LABEL COMMAND.. - the program ends with status 1 where the command runs it, and prints nothing.
+fails() {
+    local label=$1 got
+    shift
+    got=$("$@" 2>/dev/null; echo "status $?")
+    if [ "$got" != 'status 1' ]; then
+        printf 'closer: %s: printed %s\n' "$label" "$got" >&2
+        exit 1
+    fi
+    checks=$((checks + 1))
+}
+
 # The ledger of document 01's line, its first bytes, its last bytes, and more behind it.
 full() { ledger 1 1 1 32; }
 first() { full | head -c "$1"; }
 last() { full | tail -c "$1"; }
 longer() { full; zeros "$1"; }
+
+from_a_folder() { "$program" <.; }
+to_a_full_device() { full | "$program" >/dev/full; }
 
 in_pieces() { first 100; sleep 0.2; last 252; }
 reserved_byte() { first 15; number 1 1; last 336; }
@@ -133,4 +149,7 @@ try 'refused 9' 'total 0 of two sums' ledger 1 1 1 "$ones" 0 0 0 0 0 1
 try 'refused 9' 'total 48' ledger 1 1 1 30
 try 'refused 9' 'total 2^128 - 45' ledger 1 1 1 ffffffffffffffffffffffffffffffd3
 try 'refused 9' 'seven sums of 2^128 - 1' ledger 1 1 1 "$ones" "$ones" "$ones" "$ones" "$ones" "$ones" "$ones"
+
+fails 'input that cannot be read' from_a_folder
+fails 'a line that cannot be written' to_a_full_device
 echo "closer: $checks checks"

@@ -9,7 +9,8 @@ BEGIN {
     in_c["&[u8]"] = "const uint8_t *@, size_t @_len"
     in_c["&mut [u8]"] = "uint8_t *@, size_t @_len"
     in_request["u64"] = "@"
-    in_request["&[u8]"] = in_request["&mut [u8]"] = "(now (@ .entry))"
+    in_request["&[u8]"] = "@.now"
+    in_request["&mut [u8]"] = "@.old"
 }
 
 part == "engine" || part == "other" { sub(/\/\/.*/, "") }
@@ -89,15 +90,15 @@ function read_declarations(    statement, n, i, name) {
     }
 }
 
-# What stands behind a #[no_mangle], up to the next one, starts with the function that it exports.
+# What stands behind a #[unsafe(no_mangle)], up to the next one, starts with the function that it exports.
 function read_exports(    piece, n, i) {
     gsub(/[ \t]+/, " ", source)
-    n = split(source, piece, /#\[no_mangle\]/)
+    n = split(source, piece, /#\[unsafe\(no_mangle\)\]/)
     for (i = 1; i <= n; i++) {
         if (i > 1 && !sub(/^ pub extern "C" fn /, "", piece[i]))
-            fail("#[no_mangle] without pub extern \"C\" fn:" substr(piece[i], 1, 40))
+            fail("#[unsafe(no_mangle)] without pub extern \"C\" fn:" substr(piece[i], 1, 40))
         if (match(piece[i], / extern [^(]*/))
-            fail(substr(piece[i], RSTART + 1, RLENGTH - 1) ": without #[no_mangle]")
+            fail(substr(piece[i], RSTART + 1, RLENGTH - 1) ": without #[unsafe(no_mangle)]")
         if (i > 1) read_export(piece[i])
     }
 }
@@ -119,11 +120,6 @@ function read_export(text,    name, end, list, n, i) {
     compare_clause(name, only_ensures(name, substr(text, end + 1)))
 }
 
-# A name with an underscore stands in brackets in a clause.
-function in_clause(name) {
-    return name ~ /_/ ? "«" name "»" : name
-}
-
 # The text behind a last comma is empty.
 function read_parameter(name, text,    word) {
     gsub(/^ | $/, "", text)
@@ -131,9 +127,9 @@ function read_parameter(name, text,    word) {
     split(text, word, ": ")
     check(word[2] in in_c, name ": the parameter " text)
     parameters = parameters ", " with(in_c[word[2]], word[1])
-    arguments = arguments " " with(in_request[word[2]], in_clause(word[1]))
-    if (word[2] == "&mut [u8]") written = written with("now (@ .exit) ∷ ", in_clause(word[1]))
-    if (word[2] == "&[u8]") seen = seen with("now (@ .exit) ∷ ", in_clause(word[1]))
+    arguments = arguments " " with(in_request[word[2]], word[1])
+    if (word[2] == "&mut [u8]") written = written with("@.new ∷ ", word[1])
+    if (word[2] == "&[u8]") seen = seen with("@.now ∷ ", word[1])
 }
 
 # What stands between the braces of the one clause of a contract.
@@ -162,7 +158,7 @@ function closing(text,    i, depth) {
 # The formula is that of the name, and the arguments and slices those of the signature. Words with a capital letter behind the
 # request, such as the part of a ticket, belong to it: each function has a request of its own.
 function compare_clause(name, clause,    head, formula, request, word, cut, slices) {
-    head = "λ r. ⌜ " serves " "
+    head = serves " "
     check(index(clause, head) == 1, name ": a contract that does not go by " serves ": " clause)
     clause = substr(clause, length(head) + 1)
     check(match(clause, /^[A-Za-z]+ \([A-Z][A-Za-z0-9]*( [A-Z][A-Za-z0-9]*)*/), name ": neither formula nor request: " clause)
@@ -176,10 +172,10 @@ function compare_clause(name, clause,    head, formula, request, word, cut, slic
     if (request in owner) fail(name ": the request of " owner[request] ", " request)
     owner[request] = name
     asked[word[2]]
-    cut = index(clause, ") r ")
+    cut = index(clause, ") result ")
     check(substr(clause, 1, cut - 1) == arguments, name ": arguments" substr(clause, 1, cut - 1) ", not" arguments)
-    slices = listed(written) " " listed(seen) " ⌝"
-    check(substr(clause, cut + 4) == slices, name ": slices " substr(clause, cut + 4) ", not " slices)
+    slices = listed(written) " " listed(seen)
+    check(substr(clause, cut + 9) == slices, name ": slices " substr(clause, cut + 9) ", not " slices)
 }
 
 function listed(slices) {

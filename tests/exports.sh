@@ -13,12 +13,12 @@ name=exports
 # The definitions that the contracts and the requests go by.
 crate=calls
 requests=$crate/specs/Request.antt
-imported=Rattle·$crate.specs.Request
+imported=Rattle.$crate.specs.Request
 data=Request
 serves=Serves
-call_of=callOf
-to_write=lentToWrite
-to_read=lentToRead
+call_of=call_of
+to_write=lent_to_write
+to_read=lent_to_read
 bellard=bellard
 check=check
 
@@ -30,16 +30,16 @@ compared() {
     LC_ALL=C awk -f tests/exports.awk -v symbols="$*" -v data="$data" -v serves="$serves" -v call_of="$call_of" \
         -v to_write="$to_write" -v to_read="$to_read" -v from="$imported" \
         -v bellard_formula="$bellard" -v check_formula="$check" part=engine $(find "$crates/engine/src" -name '*.rt') \
-        part=other $(find "$crates" -path '*/src/*.rt' ! -path "$crates/engine/*") \
+        part=other $(find "$crates" \( -name out -o -path "$crates/engine" \) -prune -o -path '*/src/*.rt' -print) \
         part=requests "$crates/$requests" part=header "$scratch/header.i"
 }
 
 # copied - makes the copies anew.
 copied() {
     rm -rf "$scratch/crates"
-    mkdir -p "$scratch/crates/engine"
+    mkdir -p "$scratch/crates/engine" "$scratch/crates/$crate"
     cp -r "$crates/engine/src" "$scratch/crates/engine"
-    cp -r "$crates/$crate" "$scratch/crates"
+    cp -r "$crates/$crate/src" "$crates/$crate/specs" "$scratch/crates/$crate"
     cp "$header" "$scratch/bbp.h"
 }
 
@@ -75,12 +75,12 @@ prints 0 "$count" compared "$scratch/crates" "$scratch/bbp.h" "$@"
 
 # Contracts.
 in_function bbp_close "s/$serves $bellard/Otherwise $bellard/" "a contract that does not go by $serves"
-in_function bbp_close "s/⌜ .* ⌝/⌜ ⊤ ⌝/" "a contract that does not go by $serves"
-in_sources "/$imported/s/, $serves\}/}/; /$imported/s/\$/\nghost use Rattle·other.specs.Request.{$serves};/" \
-    "$serves: of Rattle·other.specs.Request, not of $imported"
+in_function bbp_close "s/\{ .* \}/{ ⊤ }/" "a contract that does not go by $serves"
+in_sources "/$imported/s/, $serves\}/}/; /$imported/s/\$/\nghost use Rattle.other.specs.Request.{$serves};/" \
+    "$serves: of Rattle.other.specs.Request, not of $imported"
 in_requests "s/\($call_of F q\)/(other F q)/" "$serves: does not go by $call_of F q"
-in_function bbp_close "s/^ *ensures/    requires { ⌜ ⊤ ⌝ }\n&/" "a clause other than ensures: requires"
-in_function bbp_close "s/^ *ensures/    ensures more { λ r. ⌜ ⊤ ⌝ }\n&/" "2 ensures, not one"
+in_function bbp_close "s/^ *ensures/    requires { ⊤ }\n&/" "a clause other than ensures: requires"
+in_function bbp_close "s/^ *ensures/    ensures more { ⊤ }\n&/" "2 ensures, not one"
 in_function bbp_close "s/^ *ensures/    decreases p\n&/" "neither a clause nor a body: decreases p"
 in_function bbp_close "/ensures/p" "2 ensures, not one"
 in_function bbp_close "/ensures/d" "0 ensures, not one"
@@ -91,37 +91,41 @@ in_function bbp_close "s/($bellard \()[A-Za-z]+/\1Unknown/" "Unknown is no const
 in_sources "/fn bbp_quote/,/^\{/s/($bellard \([A-Za-z]+) [A-Za-z]+/\1/" "bbp_quote_lower: the request of bbp_quote, $bellard "
 
 # Parameters and slices.
-in_function bbp_sheet_read "s/now \(list \.exit\) ∷ //" "slices (now (sums .exit) ∷ []) (now (sheet .exit) ∷ []) ⌝, not"
-in_function bbp_sheet_read "s/now \(list \.exit\) ∷ now \(sums/now (sums .exit) ∷ now (list/" \
-    "slices (now (sums .exit) ∷ now (list .exit) ∷ []) (now "
-in_function bbp_sheet_read "s/sums \.exit/sums .entry/" "slices (now (list .exit) ∷ now (sums .entry) ∷ []) (now "
-in_function bbp_sheet_read "s/sheet: &/&mut /" "slices (now (list .exit) ∷ now (sums .exit) ∷ []) (now (sheet .exit) ∷ []) ⌝, not"
-in_function bbp_sheet_read "s/ \(now \(sheet \.exit\) ∷ \[\]\)/ []/" "slices (now (list .exit) ∷ now (sums .exit) ∷ []) [] ⌝, not"
-in_function bbp_sheet_read "s/ \(now \(sums \.entry\)\)//" "arguments (now (sheet .entry)) (now (list .entry)), not"
-in_function bbp_sheet_read "s/sheet \.entry\)\) \(now \(list/list .entry)) (now (sheet/" \
-    "arguments (now (list .entry)) (now (sheet .entry)) (now (sums .entry)), not"
-in_function bbp_post "s/ row block/ block row/" "arguments (now (ledger .entry)) p c block row "
-in_function bbp_post "s/ row block/ row 0/" "arguments (now (ledger .entry)) p c row 0 "
-in_function bbp_book_withdraw "s/ledger \.entry\)\) \(now \(book/book .entry)) (now (ledger/" \
-    "arguments (now (book .entry)) (now (ledger .entry)) p c row block, not"
-in_function bbp_book_withdraw "s/ ∷ now \(book \.exit\)//" "slices (now (ledger .exit) ∷ []) [] ⌝, not"
-in_function bbp_standing_sheet "s/ ∷ now \(book \.exit\)//" "slices (now (sheet .exit) ∷ []) (now (ledger .exit) ∷ []) ⌝, not"
-in_function bbp_standing_sheet "s/book: &/&mut /" "slices (now (sheet .exit) ∷ []) (now (ledger .exit) ∷ now (book .exit) ∷ []) ⌝, not"
-in_function bbp_overlap "s/ «first_p»/ first_p/" "arguments (now (first .entry)) first_p (now (second .entry)) «second_p», not"
-in_function bbp_overlap_part "s/«second_p»/«first_p»/" "arguments (now (first .entry)) «first_p» (now (second .entry)) «first_p» "
-in_function bbp_overlap_part "s/ \(now \(second \.entry\)\)//" "arguments (now (first .entry)) «first_p» «second_p» (now "
+in_function bbp_sheet_read "s/list\.new ∷ //" "slices (sums.new ∷ []) (sheet.now ∷ []), not"
+in_function bbp_sheet_read "s/list\.new ∷ sums/sums.new ∷ list/" "slices (sums.new ∷ list.new ∷ []) (sheet.now "
+in_function bbp_sheet_read "s/sums\.new/sums.old/" "slices (list.new ∷ sums.old ∷ []) (sheet.now "
+in_function bbp_sheet_read "s/sheet: &/&mut /" "arguments sheet.now list.old sums.old, not"
+in_function bbp_sheet_read "s/sheet: &/&mut /; s/sheet\.now list/sheet.old list/" \
+    "slices (list.new ∷ sums.new ∷ []) (sheet.now ∷ []), not"
+in_function bbp_sheet_read "s/ \(sheet\.now ∷ \[\]\)/ []/" "slices (list.new ∷ sums.new ∷ []) [], not"
+in_function bbp_sheet_read "s/ sums\.old//" "arguments sheet.now list.old, not"
+in_function bbp_sheet_read "s/sheet\.now list\.old/list.old sheet.now/" "arguments list.old sheet.now sums.old, not"
+in_function bbp_post "s/ row block/ block row/" "arguments ledger.old p c block row "
+in_function bbp_post "s/ row block/ row 0/" "arguments ledger.old p c row 0 "
+in_function bbp_book_withdraw "s/ledger\.old book\.old/book.old ledger.old/" \
+    "arguments book.old ledger.old p c row block, not"
+in_function bbp_book_withdraw "s/ ∷ book\.new//" "slices (ledger.new ∷ []) [], not"
+in_function bbp_standing_sheet "s/ ∷ book\.now//" "slices (sheet.new ∷ []) (ledger.now ∷ []), not"
+in_function bbp_standing_sheet "s/book: &/&mut /" "arguments ledger.now book.now sheet.old, not"
+in_function bbp_standing_sheet "s/book: &/&mut /; s/book\.now sheet/book.old sheet/" \
+    "slices (sheet.new ∷ []) (ledger.now ∷ book.now ∷ []), not"
+in_function bbp_overlap "s/\.now first_p/.now p/" "arguments first.now p second.now second_p, not"
+in_function bbp_overlap_part "s/\.now second_p/.now first_p/" "arguments first.now first_p second.now first_p "
+in_function bbp_overlap_part "s/ second\.now second_p/ second_p/" "arguments first.now first_p second_p part.old, not"
 in_function bbp_overlap_part "s/second: &'a \[u8\]/second: \&'a [u16]/" "the parameter second: &[u16]"
-in_function bbp_overlap_part "s/now \(second \.exit\) ∷ //" "slices (now (part .exit) ∷ []) (now (first .exit) ∷ []) ⌝, not"
+in_function bbp_overlap_part "s/second\.now ∷ //" "slices (part.new ∷ []) (first.now ∷ []), not"
 in_function bbp_open "s/p: u64/p: u32/" "the parameter p: u32"
 in_function bbp_open "s/-> i64/-> i32/" "not a function that answers an i64"
 
 # Exports.
-in_sources "/fn bbp_close\(/s/pub //" "#[no_mangle] without pub extern \"C\" fn: extern \"C\" fn bbp_close"
-in_sources "/fn bbp_close\(/s/extern \"C\" //" "#[no_mangle] without pub extern \"C\" fn: pub fn bbp_close"
-in_sources "/no_mangle/{ N; /fn bbp_close\(/s/.*\n// }" "extern \"C\" fn bbp_close: without #[no_mangle]"
-damaged crates/engine/src/lib.rt "\$s/\$/\n#[no_mangle]\npub extern \"C\" fn bbp_extra(p: u64) -> i64\n{\n    0\n}/" \
+in_sources "/fn bbp_close\(/s/pub //" "#[unsafe(no_mangle)] without pub extern \"C\" fn: extern \"C\" fn bbp_close"
+in_sources "/fn bbp_close\(/s/extern \"C\" //" "#[unsafe(no_mangle)] without pub extern \"C\" fn: pub fn bbp_close"
+in_sources "/no_mangle/{ N; /fn bbp_close\(/s/.*\n// }" "extern \"C\" fn bbp_close: without #[unsafe(no_mangle)]"
+in_sources "/no_mangle/{ N; /fn bbp_close\(/s/unsafe\(no_mangle\)/no_mangle/ }" \
+    "extern \"C\" fn bbp_close: without #[unsafe(no_mangle)]"
+damaged crates/engine/src/lib.rt "\$s/\$/\n#[unsafe(no_mangle)]\npub extern \"C\" fn bbp_extra(p: u64) -> i64\n{\n    0\n}/" \
     "bbp_extra: 0 ensures, not one"
-damaged "crates/$crate/src/lib.rt" "\$s/\$/\n#[no_mangle]/" \
+damaged "crates/$crate/src/lib.rt" "\$s/\$/\n#[unsafe(no_mangle)]/" \
     "crates/$crate/src/lib.rt: a function is exported outside the engine"
 
 # Requests.

@@ -11,7 +11,7 @@ name=lines
 # not continue it, and these are counted.
 asked() {
     local files
-    mapfile -t files < <(find "$1" -path '*/src/*.rt' | sort)
+    mapfile -t files < <(find "$1" -name out -prune -o -path '*/src/*.rt' -print | sort)
     LC_ALL=C awk '
         FNR == 1 || /^\{/ { inside = 0 }
         /^ *(requires|ensures)( |$)/ { inside = 1 }
@@ -34,7 +34,7 @@ with() {
     local file=$scratch/crates/words/src/lib.rt
     rm -rf "$scratch/crates"
     mkdir "$scratch/crates"
-    (cd "$crates" && find . -path '*/src/*.rt' -exec cp --parents -t "$scratch/crates" {} +)
+    (cd "$crates" && find . -name out -prune -o -path '*/src/*.rt' -exec cp --parents -t "$scratch/crates" {} +)
     printf '%s\n' "${@:2}" >"$scratch/more"
     place=$(grep -n -m 1 "^$1" "$file" | cut -d: -f1)
     sed -i "$((place - 1))r $scratch/more" "$file"

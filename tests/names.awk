@@ -84,8 +84,9 @@ function read_definitions(text,    indent, word, first, end, kind) {
 }
 
 # Names of the kit. Those of this repository are looked up where they are defined.
-function read_use(text,    list, i) {
-    if (text ~ /use Rattle·/ || !sub(/^[^{]*\{/, "", text)) return
+function read_use(text,    of, list, i) {
+    of = text
+    if (sub(/^.*use Rattle\./, "", of) && sub(/\..*/, "", of) && of in crate || !sub(/^[^{]*\{/, "", text)) return
     sub(/\}.*/, "", text)
     for (i = split(text, list, /, */); i > 0; i--) defined[list[i]]
 }
@@ -221,9 +222,9 @@ function decide(token, place) {
     if (token ~ /^[A-Za-z0-9_]+(::[A-Za-z0-9_]+)+$/) return compare_item(token, place)
     if (token ~ /^[A-Za-z0-9_]+\.(a|antt|awk|c|h|md|py|rt|sh|txt)$/)
         return other(token in file_name || in_text(token), token, "no file of that name")
-    if (token ~ /^[A-Za-z0-9]*\.[a-z][A-Za-z0-9-]*$/) return compare_member(token, place)
+    if (token ~ /^([A-Z][A-Za-z0-9]*)?\.[a-z][A-Za-z0-9_]*$/) return compare_member(token, place)
     if (token ~ /^[A-Za-z][A-Za-z0-9_-]*$/) return compare_name(token, place)
-    if (token ~ /^[A-Za-z][A-Za-z0-9-]*( \.?[A-Za-z0-9-]+)+$/) return compare_words(token)
+    if (token ~ /^[A-Za-z][A-Za-z0-9_-]*(( |\.| \.)[A-Za-z0-9_-]+)+$/) return compare_words(token)
     return other(token != "" && in_text(token), token, "not in the sources")
 }
 
@@ -344,9 +345,11 @@ function in_names(token, list,    key) {
     return 0
 }
 
-# Names, numbers and members, as in an expression.
-function compare_words(token,    list, i, many) {
-    many = split(token, list, " ")
+# Names, numbers and members, as in an expression. A member stands behind a point.
+function compare_words(token,    spaced, list, i, many) {
+    spaced = token
+    gsub(/ *\./, " .", spaced)
+    many = split(spaced, list, " ")
     for (i = 1; i <= many; i++)
         if (list[i] ~ /^\./) check(substr(list[i], 2) in any_member, token, "no member " list[i])
         else if (list[i] !~ /^[0-9]+$/) check(list[i] in defined, token, list[i] " is not defined")

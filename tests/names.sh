@@ -6,11 +6,14 @@ set -u
 name=names
 . "$(dirname "$0")/checks.sh"
 
-find . \( -name .git -o -path ./build -o -path ./target -o -path ./published \) -prune -o -type f -print |
+find . \( -name .git -o -path ./build -o -path './crates/*/out' -o -path ./published \) -prune -o -type f -print |
     sed 's/^\.\///' >"$scratch/files"
 
 # of FOLDER PATTERN - the files of that name below the folder. What is in the proof of a single function is not cited.
-of() { find "$1" -name "$2" ! -name Proof.antt; }
+of() {
+    find "$1" -name out -prune -o -path '*/proofs/*' \( -name Proof.antt -o -name Answers.antt -o -name Invariants.antt \) -prune \
+        -o -name "$2" -print
+}
 
 # asked DOCUMENT.. - prints the number of checks, or on standard error all that fail.
 asked() {
@@ -58,9 +61,9 @@ damaged 'edits? `([a-z_]+\/[a-z0-9_]+)`' 'edit `\1_no_more`' '_no_more`: no file
 damaged 'mutant [0-9]+' "mutant $((mutants + 1))" "\`mutant $((mutants + 1))\`: not in the list"
 damaged 'mutants ([0-9]+) to [0-9]+' "mutants \1 to $((mutants + 1))" "\`mutant $((mutants + 1))\`: not in the list"
 damaged '(mutants [0-9]+, )[0-9]+' '\199999' '`mutant 99999`: not in the list'
-damaged '`([a-z]+[A-Z][A-Za-z]+)`' '`\1Misspelt`' 'Misspelt`: not '
-damaged '`([a-z]+-[a-z-]+)`' '`\1-misspelt`' '-misspelt`: not '
-damaged '`([A-Z][A-Za-z]+)\.[a-z-]+`' '`\1.misspelt`' '.misspelt`: no member of '
+damaged '`([a-z]+_[a-z_]+)`' '`\1_misspelt`' '_misspelt`: not '
+damaged 'proved by `([a-z]+_[a-z_]+)`' 'proved by `\1_misspelt`' '_misspelt`: not '
+damaged '`([A-Z][A-Za-z]+)\.[a-z_]+`' '`\1.misspelt`' '.misspelt`: no member of '
 damaged '`([a-z_]+::[a-z_]+)`' '`\1_misspelt`' '_misspelt`: not in '
 damaged '`(bbp_[a-z_]+)`' '`\1_misspelt`' '_misspelt`: not in the header'
 damaged '`tests\/([a-z_]+)\.sh`' '`tests\/\1_no_more.sh`' '_no_more.sh`: no file or folder'
@@ -102,12 +105,14 @@ with '`words` `Series::Nonesuch`' '`Series::Nonesuch`: no module or type Series'
 with '`Nonesuch.field`' '`Nonesuch.field`: no record, struct or enum Nonesuch'
 with '`Wide.hi`, `.nonesuch`' '`.nonesuch`: no member of Wide'
 with '`add nonesuch`' '`add nonesuch`: nonesuch is not defined'
-with '`add .nonesuch 7`' '`add .nonesuch 7`: no member .nonesuch'
-taken '`words::add`; `Wide.hi`, `.lo`; `Series::Check`; `add 7 .lo`'
+with '`add.nonesuch 7`' '`add.nonesuch 7`: no member .nonesuch'
+with '`add.nonesuch`' '`add.nonesuch`: no member .nonesuch'
+with '`nonesuch.lo`' '`nonesuch.lo`: nonesuch is not defined'
+taken '`words::add`; `Wide.hi`, `.lo`; `Series::Check`; `add 7 add.lo`; `check.last`'
 
 # Other shapes, and several at once.
 with '`make nonesuch`' '`make nonesuch`: no target of the Makefile'
-with '`rt check nonesuch`' '`rt check nonesuch`: no such crate'
+with '`rt ci nonesuch`' '`rt ci nonesuch`: no such crate'
 with '`refused 99`' '`refused 99`: no refusal of the header'
 with '`--nonesuch`' '`--nonesuch`: no option'
 with '`acceptance --nonesuch 1`' '`acceptance --nonesuch 1`: no option of examples/acceptance.c'
@@ -119,7 +124,7 @@ with '`bbp_look` `' '``: a backtick that is not closed'
 with 'mutants 1 (one), 99999 and 1 to 2' '`mutant 99999`: not in the list'
 with '`nonesuch`, `bbp_look`, `unheard` and mutant 99999' '`nonesuch`: not defined' '`unheard`: not defined' \
     '`mutant 99999`: not in the list'
-taken '`make check SEED=7`, `rt dev words`, `refused 9`, `acceptance --rows FILE`, `&[u8]`, `P/`, `tests/vectors.txt` `add`'
+taken '`make check SEED=7`, `rt ci words`, `refused 9`, `acceptance --rows FILE`, `&[u8]`, `P/`, `tests/vectors.txt` `add`'
 taken 'mutants 1, 2 (two), 3 to 5 and 6; see docs/FORMATS.md.'
 taken $'```\n`nonesuch`\n```'
 

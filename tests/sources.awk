@@ -81,14 +81,19 @@ function crate_of(name) {
     return name
 }
 
-# The last name of the path stands for it in this module.
-function read_use(text,    last) {
-    if (!sub(/^(pub )?use /, "", text) || !sub(/;$/, "", text) || text !~ /^[A-Za-z0-9_:]+$/)
-        fail(FILENAME ":" FNR ": not the use of one name")
+# The last name of the path stands for it in this module, and so does each name between braces at its end.
+function read_use(text,    above, last, list, k) {
+    if (!sub(/^(pub )?use /, "", text) || !sub(/;$/, "", text) || \
+        text !~ /^[A-Za-z0-9_:]+(::\{[A-Za-z0-9_]+(, [A-Za-z0-9_]+)*\})?$/) fail(FILENAME ":" FNR ": not the use of names")
     sub(/^crate::/, crate_of(module) "::", text)
-    last = text
-    sub(/.*::/, "", last)
-    stands_for[module, last] = text
+    if (!match(text, /\{.*\}/)) {
+        last = text
+        sub(/.*::/, "", last)
+        stands_for[module, last] = text
+        return
+    }
+    above = substr(text, 1, RSTART - 1)
+    for (k = split(substr(text, RSTART + 1, RLENGTH - 2), list, ", "); k > 0; k--) stands_for[module, list[k]] = above list[k]
 }
 
 # A body in one line. Where its braces do not match, it was not read up to its end.

@@ -13,7 +13,7 @@ name=sources
 # asked CRATES - prints the number of checks, or on standard error the first that fails.
 asked() {
     local files
-    mapfile -t files < <(find "$1" -path '*/src/*.rt')
+    mapfile -t files < <(find "$1" -name out -prune -o -path '*/src/*.rt' -print)
     LC_ALL=C awk -f tests/sources.awk "${files[@]}"
 }
 
@@ -21,7 +21,7 @@ asked() {
 copied() {
     rm -rf "$scratch/crates"
     mkdir "$scratch/crates"
-    (cd "$crates" && find . -path '*/src/*.rt' -exec cp --parents -t "$scratch/crates" {} +)
+    (cd "$crates" && find . -name out -prune -o -path '*/src/*.rt' -exec cp --parents -t "$scratch/crates" {} +)
 }
 
 # file_of MODULE - of the copies.
@@ -42,8 +42,9 @@ in_module() {
     same "whether $1 is changed by $2" "$(cmp -s "$file" "$scratch/before"; echo $?)" 1
 }
 
-# in_function FUNCTION EDIT - the edit is of that function alone.
-in_function() { in_module "${1%::*}" "/fn ${1##*::}(<'a>)?\(/,/^\}/{ $2 }"; }
+# in_function FUNCTION EDIT - the edit is of that function alone, and not of its contract.
+in_function() { in_module "${1%::*}" "/fn ${1##*::}(<'a>)?\(/,/^\}/{ /^ +(requires|ensures)/,/^\{/b
+$2 }"; }
 
 # with MODULE CODE - the code is put behind the last line of the module.
 with() { printf '%s\n' "$2" >>"$(file_of "$1")"; }
@@ -211,7 +212,9 @@ told "montgomery::smaller: braces that do not match"
 with montgomery::counted "$chosen"
 with montgomery::counted "$chosen"
 told "montgomery::counted::chosen: written twice"
-in_module montgomery 's/^use words::Wide;/use words::{Wide, add};/'
-told "not the use of one name"
+for names in 'words::{Wide, divide::{self}}' 'words::*' 'words::Wide as Words'; do
+    in_module montgomery "s/^use words::Wide;/use $names;/"
+    told "not the use of names"
+done
 
 echo "sources: $checks checks"

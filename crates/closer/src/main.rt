@@ -1,13 +1,31 @@
 // The closing program: reads one ledger from standard input and prints its line.
 #![tactic(auto)]
 
-use libc::{STDIN_FILENO, STDOUT_FILENO};
-use series::Series;
+ghost use Rattle.std.specs.Io.{ReadsAtMost};
 
-fn main() {
-    let mut input = io::buffer();
-    let n = io::read_full(STDIN_FILENO, &mut input);
+use series::Series;
+use std::io;
+use std::io::Read;
+
+// Reads until the buffer is full or the input ends. The answer is how many bytes it put at the start of the buffer.
+fn read_full(input: &mut impl Read, buffer: &mut [u8]) -> io::Result<usize>
+    ensures { ReadsAtMost result buffer.new }
+{
+    let mut done = 0;
+    while done < buffer.len() {
+        let count = input.read(&mut buffer[done..])?;
+        if count == 0 {
+            break;
+        }
+        done += count;
+    }
+    Ok(done)
+}
+
+fn main(rt: HostRuntime) -> io::Result<()> {
+    let mut input = [0u8; 4096];
+    let n = read_full(&mut rt.stdin(), &mut input)?;
     let mut line = [0u8; closing_line::LONGEST];
     let end = closing_line::put_line(Series::Bellard, &input[..n], &mut line);
-    io::write_all(STDOUT_FILENO, &line[..end]);
+    rt.write_all(&line[..end])
 }

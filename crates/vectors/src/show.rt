@@ -1,200 +1,259 @@
 // A line for each figure: what is asked, and what the engine's functions give.
-use libc::STDOUT_FILENO;
 use run::{Answer, Refusal};
 use series::Series;
+use std::io;
 use ticket::Part;
 use words::Wide;
 
-fn text(s: &[u8]) {
-    io::write_all(STDOUT_FILENO, s);
+fn number(rt: &impl Print, x: u64) -> io::Result<()> {
+    print!(rt; " {x}")
 }
 
-fn number(x: u64) {
-    text(b" ");
-    io::print_decimal(STDOUT_FILENO, x);
+fn sign(rt: &impl Print, added: bool) -> io::Result<()> {
+    rt.print(if added { " +" } else { " -" })
 }
 
-fn sign(added: bool) {
-    if added {
-        text(b" +");
-    } else {
-        text(b" -");
+fn wide(rt: &impl Print, x: Wide) -> io::Result<()> {
+    print!(rt; " {:016x}{:016x}", x.hi, x.lo)
+}
+
+fn bytes(rt: &impl Print, s: &[u8]) -> io::Result<()> {
+    rt.print(" ")?;
+    for b in s {
+        print!(rt; "{b:02x}")?;
     }
+    Ok(())
 }
 
-fn wide(x: Wide) {
-    text(b" ");
-    io::print_hex(STDOUT_FILENO, x.hi, 16);
-    io::print_hex(STDOUT_FILENO, x.lo, 16);
-}
-
-fn bytes(s: &[u8]) {
-    text(b" ");
-    let mut i = 0;
-    while i < s.len() {
-        io::print_hex(STDOUT_FILENO, s[i] as u64, 2);
-        i += 1;
-    }
-}
-
-fn refusal(r: Refusal) {
-    match r {
-        Refusal::OutOfRange => text(b" refused 2"),
-        Refusal::NoTicket => text(b" refused 4"),
-        _ => text(b" refused"),
-    }
+fn refusal(rt: &impl Print, r: Refusal) -> io::Result<()> {
+    rt.print(match r {
+        Refusal::OutOfRange => " refused 2",
+        Refusal::NoTicket => " refused 4",
+        _ => " refused",
+    })
 }
 
 // The kind of a line; those of check runs have names of their own.
-fn kind(f: Series, name: &[u8]) {
+fn kind(rt: &impl Print, f: Series, name: &str) -> io::Result<()> {
     match f {
-        Series::Bellard => {}
-        Series::Check => text(b"check-"),
+        Series::Bellard => print!(rt; "{name}"),
+        Series::Check => print!(rt; "check-{name}"),
     }
-    text(name);
 }
 
-fn count_at(f: Series, p: u64) {
+fn count_at(rt: &impl Print, f: Series, p: u64) -> io::Result<()> {
     if !run::in_range(f, p, 1) {
-        return;
+        return Ok(());
     }
-    number(series::terms::term_count(f, p));
+    number(rt, series::terms::term_count(f, p))
 }
 
-fn bounds_of(f: Series, p: u64, c: u64, i: u64) {
+fn bounds_of(rt: &impl Print, f: Series, p: u64, c: u64, i: u64) -> io::Result<()> {
     if !run::in_range(f, p, c) {
-        return;
+        return Ok(());
     }
     if c <= i {
-        return;
+        return Ok(());
     }
     let count = series::terms::term_count(f, p);
-    number(run::bound(count, c, i));
-    number(run::bound(count, c, i + 1));
+    number(rt, run::bound(count, c, i))?;
+    number(rt, run::bound(count, c, i + 1))
 }
 
-fn size_of(f: Series, p: u64, row: u64, k: u64) {
+fn size_of(rt: &impl Print, f: Series, p: u64, row: u64, k: u64) -> io::Result<()> {
     if !run::in_range(f, p, 1) {
-        return;
+        return Ok(());
     }
     if !run::is_ticket(f, 1, row, 0) {
-        return;
+        return Ok(());
     }
     if series::terms::term_count(f, p) <= k {
-        return;
+        return Ok(());
     }
     let numbers = series::terms::numbers_of(f, p, row);
-    sign(series::terms::is_added(numbers, k));
+    sign(rt, series::terms::is_added(numbers, k))?;
     let term = series::terms::size(numbers, k);
-    wide(term.value);
-    number(term.squarings);
+    wide(rt, term.value)?;
+    number(rt, term.squarings)
 }
 
-fn quotient_of(e: u64, n: u64) {
+fn quotient_of(rt: &impl Print, e: u64, n: u64) -> io::Result<()> {
     if e < 128 {
-        return;
+        return Ok(());
     }
     if n % 2 == 0 {
-        return;
+        return Ok(());
     }
-    if n < 0x8000_0000_0000_0000 {
-        let q = montgomery::quotient_of_power(e, n);
-        wide(q.value);
-        number(q.squarings);
+    if n >= 0x8000_0000_0000_0000 {
+        return Ok(());
     }
+    let q = montgomery::quotient_of_power(e, n);
+    wide(rt, q.value)?;
+    number(rt, q.squarings)
 }
 
-fn sum_of(f: Series, part: Part, p: u64, c: u64, row: u64, block: u64) {
+fn sum_of(
+    rt: &impl Print,
+    f: Series,
+    part: Part,
+    p: u64,
+    c: u64,
+    row: u64,
+    block: u64,
+) -> io::Result<()> {
     let mut sum = [0u8; 16];
     let mut squarings = [0u8; 16];
     match ticket::work(f, part, p, c, row, block, &mut sum, &mut squarings) {
         Answer::Finished(_) => {
-            bytes(&sum);
-            bytes(&squarings);
+            bytes(rt, &sum)?;
+            bytes(rt, &squarings)
         }
-        Answer::Refused(r) => refusal(r),
+        Answer::Refused(r) => refusal(rt, r),
     }
 }
 
-fn squarings_of(f: Series, part: Part, p: u64, c: u64, row: u64, block: u64) {
+fn squarings_of(
+    rt: &impl Print,
+    f: Series,
+    part: Part,
+    p: u64,
+    c: u64,
+    row: u64,
+    block: u64,
+) -> io::Result<()> {
     let mut squarings = [0u8; 16];
     match ticket::quote(f, part, p, c, row, block, &mut squarings) {
-        Answer::Finished(_) => bytes(&squarings),
-        Answer::Refused(r) => refusal(r),
+        Answer::Finished(_) => bytes(rt, &squarings),
+        Answer::Refused(r) => refusal(rt, r),
     }
 }
 
 // K at position p.
-pub fn count(f: Series, p: u64) {
-    kind(f, b"count");
-    number(p);
-    count_at(f, p);
-    text(b"\n");
+fn count(rt: &impl Print, f: Series, p: u64) -> io::Result<()> {
+    kind(rt, f, "count")?;
+    number(rt, p)?;
+    count_at(rt, f, p)?;
+    rt.println("")
 }
 
 // The bounds of block i of c.
-pub fn block(f: Series, p: u64, c: u64, i: u64) {
-    kind(f, b"block");
-    number(p);
-    number(c);
-    number(i);
-    bounds_of(f, p, c, i);
-    text(b"\n");
+fn block(rt: &impl Print, f: Series, p: u64, c: u64, i: u64) -> io::Result<()> {
+    kind(rt, f, "block")?;
+    print!(rt; " {p} {c} {i}")?;
+    bounds_of(rt, f, p, c, i)?;
+    rt.println("")
 }
 
 // The sign and the size of term k, and its squarings.
-pub fn term(f: Series, p: u64, row: u64, k: u64) {
-    kind(f, b"term");
-    number(p);
-    number(row);
-    number(k);
-    size_of(f, p, row, k);
-    text(b"\n");
+fn term(rt: &impl Print, f: Series, p: u64, row: u64, k: u64) -> io::Result<()> {
+    kind(rt, f, "term")?;
+    print!(rt; " {p} {row} {k}")?;
+    size_of(rt, f, p, row, k)?;
+    rt.println("")
 }
 
 // The whole part of 2^e / n, modulo 2^128, and the squarings that it took.
-pub fn quotient(e: u64, n: u64) {
-    text(b"quotient");
-    number(e);
-    number(n);
-    quotient_of(e, n);
-    text(b"\n");
+fn quotient(rt: &impl Print, e: u64, n: u64) -> io::Result<()> {
+    print!(rt; "quotient {e} {n}")?;
+    quotient_of(rt, e, n)?;
+    rt.println("")
 }
 
-fn part(f: Series, name: &[u8], part: Part, p: u64, c: u64, row: u64, block: u64) {
-    kind(f, name);
-    number(p);
-    number(c);
-    number(row);
-    number(block);
-    sum_of(f, part, p, c, row, block);
-    text(b"\n");
+fn part(
+    rt: &impl Print,
+    f: Series,
+    name: &str,
+    part: Part,
+    p: u64,
+    c: u64,
+    row: u64,
+    block: u64,
+) -> io::Result<()> {
+    kind(rt, f, name)?;
+    print!(rt; " {p} {c} {row} {block}")?;
+    sum_of(rt, f, part, p, c, row, block)?;
+    rt.println("")
 }
 
 // The 16 bytes of a ticket's sum and of its squarings, or the refusal.
-pub fn ticket(f: Series, p: u64, c: u64, row: u64, block: u64) {
-    part(f, b"ticket", Part::Whole, p, c, row, block);
+fn ticket(rt: &impl Print, f: Series, p: u64, c: u64, row: u64, block: u64) -> io::Result<()> {
+    part(rt, f, "ticket", Part::Whole, p, c, row, block)
 }
 
 // The same of its halves, the lower one first.
-pub fn halves(f: Series, p: u64, c: u64, row: u64, block: u64) {
-    part(f, b"lower", Part::Lower, p, c, row, block);
-    part(f, b"upper", Part::Upper, p, c, row, block);
+fn halves_of(rt: &impl Print, f: Series, p: u64, c: u64, row: u64, block: u64) -> io::Result<()> {
+    part(rt, f, "lower", Part::Lower, p, c, row, block)?;
+    part(rt, f, "upper", Part::Upper, p, c, row, block)
 }
 
-fn quote_part(f: Series, name: &[u8], part: Part, p: u64, c: u64, row: u64, block: u64) {
-    kind(f, name);
-    number(p);
-    number(c);
-    number(row);
-    number(block);
-    squarings_of(f, part, p, c, row, block);
-    text(b"\n");
+fn quote_part(
+    rt: &impl Print,
+    f: Series,
+    name: &str,
+    part: Part,
+    p: u64,
+    c: u64,
+    row: u64,
+    block: u64,
+) -> io::Result<()> {
+    kind(rt, f, name)?;
+    print!(rt; " {p} {c} {row} {block}")?;
+    squarings_of(rt, f, part, p, c, row, block)?;
+    rt.println("")
 }
 
 // The 16 bytes of the squarings that a ticket and its halves take, without working them.
-pub fn quotes(f: Series, p: u64, c: u64, row: u64, block: u64) {
-    quote_part(f, b"quote", Part::Whole, p, c, row, block);
-    quote_part(f, b"quote-lower", Part::Lower, p, c, row, block);
-    quote_part(f, b"quote-upper", Part::Upper, p, c, row, block);
+fn quotes_of(rt: &impl Print, f: Series, p: u64, c: u64, row: u64, block: u64) -> io::Result<()> {
+    quote_part(rt, f, "quote", Part::Whole, p, c, row, block)?;
+    quote_part(rt, f, "quote-lower", Part::Lower, p, c, row, block)?;
+    quote_part(rt, f, "quote-upper", Part::Upper, p, c, row, block)
+}
+
+pub fn counts(rt: &impl Print, f: Series, asked: &[u64]) -> io::Result<()> {
+    for p in asked {
+        count(rt, f, *p)?;
+    }
+    Ok(())
+}
+
+pub fn blocks(rt: &impl Print, f: Series, asked: &[(u64, u64, u64)]) -> io::Result<()> {
+    for (p, c, i) in asked {
+        block(rt, f, *p, *c, *i)?;
+    }
+    Ok(())
+}
+
+pub fn terms(rt: &impl Print, f: Series, asked: &[(u64, u64, u64)]) -> io::Result<()> {
+    for (p, row, k) in asked {
+        term(rt, f, *p, *row, *k)?;
+    }
+    Ok(())
+}
+
+pub fn quotients(rt: &impl Print, asked: &[(u64, u64)]) -> io::Result<()> {
+    for (e, n) in asked {
+        quotient(rt, *e, *n)?;
+    }
+    Ok(())
+}
+
+pub fn tickets(rt: &impl Print, f: Series, asked: &[(u64, u64, u64, u64)]) -> io::Result<()> {
+    for (p, c, row, block) in asked {
+        ticket(rt, f, *p, *c, *row, *block)?;
+    }
+    Ok(())
+}
+
+pub fn halves(rt: &impl Print, f: Series, asked: &[(u64, u64, u64, u64)]) -> io::Result<()> {
+    for (p, c, row, block) in asked {
+        halves_of(rt, f, *p, *c, *row, *block)?;
+    }
+    Ok(())
+}
+
+pub fn quotes(rt: &impl Print, f: Series, asked: &[(u64, u64, u64, u64)]) -> io::Result<()> {
+    for (p, c, row, block) in asked {
+        quotes_of(rt, f, *p, *c, *row, *block)?;
+    }
+    Ok(())
 }
