@@ -129,7 +129,7 @@ fn squarings_of(
 }
 
 // K at position p.
-fn count(rt: &impl Print, f: Series, p: u64) -> io::Result<()> {
+pub fn count(rt: &impl Print, f: Series, p: u64) -> io::Result<()> {
     kind(rt, f, "count")?;
     number(rt, p)?;
     count_at(rt, f, p)?;
@@ -137,7 +137,7 @@ fn count(rt: &impl Print, f: Series, p: u64) -> io::Result<()> {
 }
 
 // The bounds of block i of c.
-fn block(rt: &impl Print, f: Series, p: u64, c: u64, i: u64) -> io::Result<()> {
+pub fn block(rt: &impl Print, f: Series, p: u64, c: u64, i: u64) -> io::Result<()> {
     kind(rt, f, "block")?;
     print!(rt; " {p} {c} {i}")?;
     bounds_of(rt, f, p, c, i)?;
@@ -145,7 +145,7 @@ fn block(rt: &impl Print, f: Series, p: u64, c: u64, i: u64) -> io::Result<()> {
 }
 
 // The sign and the size of term k, and its squarings.
-fn term(rt: &impl Print, f: Series, p: u64, row: u64, k: u64) -> io::Result<()> {
+pub fn term(rt: &impl Print, f: Series, p: u64, row: u64, k: u64) -> io::Result<()> {
     kind(rt, f, "term")?;
     print!(rt; " {p} {row} {k}")?;
     size_of(rt, f, p, row, k)?;
@@ -153,7 +153,7 @@ fn term(rt: &impl Print, f: Series, p: u64, row: u64, k: u64) -> io::Result<()> 
 }
 
 // The whole part of 2^e / n, modulo 2^128, and the squarings that it took.
-fn quotient(rt: &impl Print, e: u64, n: u64) -> io::Result<()> {
+pub fn quotient(rt: &impl Print, e: u64, n: u64) -> io::Result<()> {
     print!(rt; "quotient {e} {n}")?;
     quotient_of(rt, e, n)?;
     rt.println("")
@@ -176,12 +176,12 @@ fn part(
 }
 
 // The 16 bytes of a ticket's sum and of its squarings, or the refusal.
-fn ticket(rt: &impl Print, f: Series, p: u64, c: u64, row: u64, block: u64) -> io::Result<()> {
+pub fn ticket(rt: &impl Print, f: Series, p: u64, c: u64, row: u64, block: u64) -> io::Result<()> {
     part(rt, f, "ticket", Part::Whole, p, c, row, block)
 }
 
 // The same of its halves, the lower one first.
-fn halves_of(rt: &impl Print, f: Series, p: u64, c: u64, row: u64, block: u64) -> io::Result<()> {
+pub fn halves(rt: &impl Print, f: Series, p: u64, c: u64, row: u64, block: u64) -> io::Result<()> {
     part(rt, f, "lower", Part::Lower, p, c, row, block)?;
     part(rt, f, "upper", Part::Upper, p, c, row, block)
 }
@@ -203,57 +203,8 @@ fn quote_part(
 }
 
 // The 16 bytes of the squarings that a ticket and its halves take, without working them.
-fn quotes_of(rt: &impl Print, f: Series, p: u64, c: u64, row: u64, block: u64) -> io::Result<()> {
+pub fn quotes(rt: &impl Print, f: Series, p: u64, c: u64, row: u64, block: u64) -> io::Result<()> {
     quote_part(rt, f, "quote", Part::Whole, p, c, row, block)?;
     quote_part(rt, f, "quote-lower", Part::Lower, p, c, row, block)?;
     quote_part(rt, f, "quote-upper", Part::Upper, p, c, row, block)
-}
-
-pub fn counts(rt: &impl Print, f: Series, asked: &[u64]) -> io::Result<()> {
-    for p in asked {
-        count(rt, f, *p)?;
-    }
-    Ok(())
-}
-
-pub fn blocks(rt: &impl Print, f: Series, asked: &[(u64, u64, u64)]) -> io::Result<()> {
-    for (p, c, i) in asked {
-        block(rt, f, *p, *c, *i)?;
-    }
-    Ok(())
-}
-
-pub fn terms(rt: &impl Print, f: Series, asked: &[(u64, u64, u64)]) -> io::Result<()> {
-    for (p, row, k) in asked {
-        term(rt, f, *p, *row, *k)?;
-    }
-    Ok(())
-}
-
-pub fn quotients(rt: &impl Print, asked: &[(u64, u64)]) -> io::Result<()> {
-    for (e, n) in asked {
-        quotient(rt, *e, *n)?;
-    }
-    Ok(())
-}
-
-pub fn tickets(rt: &impl Print, f: Series, asked: &[(u64, u64, u64, u64)]) -> io::Result<()> {
-    for (p, c, row, block) in asked {
-        ticket(rt, f, *p, *c, *row, *block)?;
-    }
-    Ok(())
-}
-
-pub fn halves(rt: &impl Print, f: Series, asked: &[(u64, u64, u64, u64)]) -> io::Result<()> {
-    for (p, c, row, block) in asked {
-        halves_of(rt, f, *p, *c, *row, *block)?;
-    }
-    Ok(())
-}
-
-pub fn quotes(rt: &impl Print, f: Series, asked: &[(u64, u64, u64, u64)]) -> io::Result<()> {
-    for (p, c, row, block) in asked {
-        quotes_of(rt, f, *p, *c, *row, *block)?;
-    }
-    Ok(())
 }
