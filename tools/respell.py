@@ -5,7 +5,7 @@ usage: python3 tools/respell.py    once, at the top of the repository, after the
 
 What turns: the names that specs/*.antt and proofs/*.antt declare (definitions, lemmas, fields of records, functions of a `where`),
 in specs, proofs and contracts. Functions of src/, modules, types, constructors and the names that Rattle makes stay, and so does a
-name that a dash joins to an operator. Where two names would fall together, the lemma or field gets `_lem`.
+name that a dash joins to an operator. Where two names would fall together, the lemma gets `_lem`.
 """
 import os
 import re
@@ -60,6 +60,49 @@ def table_of(own):
     return {n: new for n, new in spelled.items() if new != n}
 
 
+def bare_fields():
+    """A field of a record stands in no other name's place: the spelling without `_lem` is its own."""
+    record = re.compile(r"^( *)(?:pub )?record \S+.* where$")
+    declared = re.compile(r"^ *(?:pub +)?(" + NAME + r"_lem) :(?= |$)")
+    fields, lines_of, inside = set(), {}, {}
+    for path in texts("crates", ".antt"):
+        lines_of[path] = read(path).split("\n")
+        inside[path] = set()
+        within = None
+        for i, line in enumerate(lines_of[path]):
+            m = record.match(line)
+            if m:
+                within = len(m[1])
+            elif within is not None and line.strip() and len(line) - len(line.lstrip()) <= within:
+                within = None
+            d = declared.match(line)
+            if d and within is not None and not is_made(path):
+                fields.add(d[1])
+                inside[path].add(i)
+    # projections; labels of a record that is made; not the equations of a lemma, whose signature stands above
+    projection = re.compile(r"(?<=\.)(" + NAME + r"_lem)(?![\w'-])")
+    label = re.compile(r"((?:^ +|[{;] ))(" + NAME + r"_lem)(?= = )")
+    for path, lines in lines_of.items():
+        lemma = None
+        for i, line in enumerate(lines):
+            if lemma and line.strip() and len(line) - len(line.lstrip()) < lemma[1]:
+                lemma = None
+            d = declared.match(line)
+            if d:
+                if i in inside[path]:
+                    lines[i] = line = line.replace(d[1], d[1][:-4], 1)
+                lemma = None if i in inside[path] else (d[1], len(line) - len(line.lstrip()))
+
+            def plain(m):
+                equation = lemma and m[2] == lemma[0] and not m[1].strip() and len(m[1]) == lemma[1]
+                return m[0] if m[2] not in fields or equation else m[1] + m[2][:-4]
+
+            line = projection.sub(lambda m: m[1][:-4] if m[1] in fields else m[1], line)
+            lines[i] = label.sub(plain, line)
+        with open(path, "w", encoding="utf-8") as f:
+            f.write("\n".join(lines))
+
+
 def main():
     own, by_file = set(), {}
     for path in texts("crates", ".antt"):
@@ -91,6 +134,10 @@ def main():
             n = m[1]
             if n not in table:
                 return n
+            # a word of a comment, unless it is marked as code
+            line = code[code.rfind("\n", 0, m.start()) + 1 : m.start()]
+            if "--" in line and line.count("`") % 2 == 0:
+                return n
             behind = m.start() > 0 and code[m.start() - 1] == "."
             # A label of a record that is made, and a field that is read
             if n in here or (n not in others and (behind or n in fields)):
@@ -117,6 +164,7 @@ def main():
         if new != code:
             with open(path, "w", encoding="utf-8") as f:
                 f.write(new)
+    bare_fields()
 
 
 if __name__ == "__main__":

@@ -61,7 +61,7 @@ module _ (lim : Limits) (fits : lim.last < 2 ^ 64) where
     few = (range_of lim k.plain.p k.plain.C o.range).c_high
 
     pub kept_there : (row block : ℕ) → row < lim.rows → block < 256 → kept_in (encode_book lim k.kept) row block ≡ k.kept row block
-    kept_there row block h l = kept_encode lim k.kept row block h l (o.kept_in_lem row block)
+    kept_there row block h l = kept_encode lim k.kept row block h l (o.kept_in row block)
 
     row_adds : (row : ℕ) → row < lim.rows → adds_up (encode lim k.plain) (encode_book lim k.kept) row ≡ true
     unfolding adds_up
@@ -69,7 +69,7 @@ module _ (lim : Limits) (fits : lim.last < 2 ^ 64) where
         eq-eqb (sum (kept_in (encode_book lim k.kept) row) 0 256 % modulus) (row_sum_in (encode lim k.plain) row)
         (ap (λ (n : ℕ). n % modulus)
         (sum_ext (kept_in (encode_book lim k.kept) row) (k.kept row) 0 256 (λ b l u. kept_there row b h (omega arith)) ∙ sum_up_to (k.kept row) k.plain.C 256 few (past_last lim k.plain k.kept o.tickets_in o.off row))
-        ∙ o.adds_up_lem row h ∙ sym (sum_encode lim k.plain (good_of k o) row h))
+        ∙ o.adds_up row h ∙ sym (sum_encode lim k.plain (good_of k o) row h))
 
     row_zero : (row : ℕ) → row < lim.rows → zero_elsewhere lim (encode lim k.plain) (encode_book lim k.kept) row ≡ true
     unfolding zero_elsewhere
@@ -173,9 +173,9 @@ module _ (lim : Limits) (fits : lim.last < 2 ^ 64) where
       range = good.range;
       tickets_in = good.tickets_in;
       sums_in = good.sums_in;
-      kept_in_lem = kept_small;
+      kept_in = kept_small;
       off = off_zero;
-      adds_up_lem = row_sums_lem;
+      adds_up = row_sums_lem;
     }
 
     book_again : encode_book lim (decode_with lim ledger book).kept ≡ book
@@ -201,9 +201,9 @@ module _ (lim : Limits) (fits : lim.last < 2 ^ 64) where
     range = e;
     tickets_in = λ row block f. cc;
     sums_in = λ row. pow_pos 128;
-    kept_in_lem = λ row block. pow_pos 128;
+    kept_in = λ row block. pow_pos 128;
     off = λ row block f. refl;
-    adds_up_lem = λ row h. ap (λ (n : ℕ). n % modulus) (sum_zero (λ block. 0) 0 C (λ block. refl));
+    adds_up = λ row h. ap (λ (n : ℕ). n % modulus) (sum_zero (λ block. 0) 0 C (λ block. refl));
   }
 
   module _ (k : Keeping) (o : Sound lim k) where
@@ -219,7 +219,7 @@ module _ (lim : Limits) (fits : lim.last < 2 ^ 64) where
         where
           go : (b : Bool) → cond b (t.sum % modulus) (k.kept row block) < modulus
           go true = mod-lt t.sum (pow_pos 128)
-          go false = o.kept_in_lem row block
+          go false = o.kept_in row block
 
       more_off : (row block : ℕ) → including t k.plain.tickets row block ≡ false → more row block ≡ 0
       more_off row block =
@@ -242,19 +242,19 @@ module _ (lim : Limits) (fits : lim.last < 2 ^ 64) where
               let same = eqb-true t.row row e in
               subst (λ (r : ℕ). sum (more r) 0 k.plain.C % modulus ≡ adding t.row t.sum k.plain.sums r) same
               (ap (λ (n : ℕ). n % modulus) here ∙ rem_either modulus (sum (k.kept t.row) 0 k.plain.C) t.sum
-              ∙ ap (λ (n : ℕ). (n + t.sum) % modulus) (o.adds_up_lem t.row (subst (λ (r : ℕ). r < lim.rows) (sym same) l))
+              ∙ ap (λ (n : ℕ). (n + t.sum) % modulus) (o.adds_up t.row (subst (λ (r : ℕ). r < lim.rows) (sym same) l))
               ∙ sym (adding_here t.row t.sum k.plain.sums))
           go false e =
               let ne = eqb-false t.row row e in
               ap (λ (n : ℕ). n % modulus)
               (sym (sum_ext (k.kept row) (more row) 0 k.plain.C (λ i u v. keeping_else t.row t.block (t.sum % modulus) k.kept row i (λ q. ne (sym q.0)))))
-              ∙ o.adds_up_lem row l ∙ sym (adding_else t.row t.sum k.plain.sums row ne)
+              ∙ o.adds_up row l ∙ sym (adding_else t.row t.sum k.plain.sums row ne)
 
       pub sound_admit : Sound lim (admit_kept k t)
       unfolding admit_kept admit
       sound_admit =
           let g = good_admit lim k.plain t (good_of k o) h in
-          record { range = g.range; tickets_in = g.tickets_in; sums_in = g.sums_in; kept_in_lem = more_in; off = more_off; adds_up_lem = more_adds }
+          record { range = g.range; tickets_in = g.tickets_in; sums_in = g.sums_in; kept_in = more_in; off = more_off; adds_up = more_adds }
 
     -- ---- a ticket that is in the set, taken out
 
@@ -268,7 +268,7 @@ module _ (lim : Limits) (fits : lim.last < 2 ^ 64) where
         where
           go : (c : Bool) → cond c 0 (k.kept r b) < modulus
           go true = pow_pos 128
-          go false = o.kept_in_lem r b
+          go false = o.kept_in r b
 
       fewer_off : (r b : ℕ) → excluding row block k.plain.tickets r b ≡ false → fewer r b ≡ 0
       unfolding excluding keeping
@@ -297,13 +297,13 @@ module _ (lim : Limits) (fits : lim.last < 2 ^ 64) where
               subst (λ (n : ℕ). sum (fewer n) 0 k.plain.C % modulus ≡ adding row (modulus - x % modulus) k.plain.sums n) same
               (taken_out modulus (sum (fewer row) 0 k.plain.C) x (pow_pos 128)
               ∙ ap (λ (n : ℕ). (n + (modulus - x % modulus)) % modulus)
-              (ap (λ (n : ℕ). n % modulus) (sym here) ∙ o.adds_up_lem row (subst (λ (n : ℕ). n < lim.rows) (sym same) l))
+              (ap (λ (n : ℕ). n % modulus) (sym here) ∙ o.adds_up row (subst (λ (n : ℕ). n < lim.rows) (sym same) l))
               ∙ sym (adding_here row (modulus - x % modulus) k.plain.sums))
           go false e =
               let ne = eqb-false row r e in
               ap (λ (n : ℕ). n % modulus)
               (sym (sum_ext (k.kept r) (fewer r) 0 k.plain.C (λ i u v. keeping_else row block 0 k.kept r i (λ q. ne (sym q.0)))))
-              ∙ o.adds_up_lem r l ∙ sym (adding_else row (modulus - x % modulus) k.plain.sums r ne)
+              ∙ o.adds_up r l ∙ sym (adding_else row (modulus - x % modulus) k.plain.sums r ne)
 
       -- what is left in the set was there
       still : (r b : ℕ) → excluding row block k.plain.tickets r b ≡ true → k.plain.tickets r b ≡ true
@@ -316,11 +316,11 @@ module _ (lim : Limits) (fits : lim.last < 2 ^ 64) where
         range = o.range;
         tickets_in = λ r b e. o.tickets_in r b (still r b e);
         sums_in = λ r. adding_fits row (opposite (k.kept row block)) k.plain.sums r (o.sums_in r);
-        kept_in_lem = fewer_in;
+        kept_in = fewer_in;
         off = fewer_off;
-        adds_up_lem = fewer_adds;
+        adds_up = fewer_adds;
       }
 
   -- ledger and book in order together hold exactly what such a plain ledger holds
   pub holds_kept : HoldsKept lim
-  holds_kept = record { in_order_lem = view_with_lem; sums_read = sums_decoded; kept_read = kept_decoded; sound = sound_decoded; again = again_decoded }
+  holds_kept = record { in_order = view_with_lem; sums_read = sums_decoded; kept_read = kept_decoded; sound = sound_decoded; again = again_decoded }

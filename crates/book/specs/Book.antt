@@ -71,6 +71,6 @@ remove lim s row block x = unmark lim (add_to s row (opposite x)) row block
 -- what has been tested before a ticket is taken out: its row and block have a place in the ledger, whatever its C, and its bit is set
 pub record Removable (lim : Limits) (s : List ℕ) (row block : ℕ) : Type 0 where
   pub sized : length s ≡ ledger_size lim
-  pub row_in_lem : row < lim.rows
-  pub block_in_lem : block < 256
+  pub row_in : row < lim.rows
+  pub block_in : block < 256
   pub there : bit_in lim s row block ≡ true

@@ -52,14 +52,14 @@ pub record Sound (lim : Limits) (k : Keeping) : Type 0 where
   pub range : in_range lim k.plain.p k.plain.C ≡ true
   pub tickets_in : (row block : ℕ) → k.plain.tickets row block ≡ true → is_ticket lim k.plain.C row block ≡ true
   pub sums_in : (row : ℕ) → k.plain.sums row < modulus
-  pub kept_in_lem : (row block : ℕ) → k.kept row block < modulus
+  pub kept_in : (row block : ℕ) → k.kept row block < modulus
   pub off : (row block : ℕ) → k.plain.tickets row block ≡ false → k.kept row block ≡ 0
-  pub adds_up_lem : (row : ℕ) → row < lim.rows → sum (k.kept row) 0 k.plain.C % modulus ≡ k.plain.sums row
+  pub adds_up : (row : ℕ) → row < lim.rows → sum (k.kept row) 0 k.plain.C % modulus ≡ k.plain.sums row
 
 -- A ledger and a book that are in order together hold exactly what such a plain ledger holds, both ways.
 pub record HoldsKept (lim : Limits) : Type 0 where
   -- the bytes of one have their sizes and are in order together, and what they say is what it holds
-  pub in_order_lem : (k : Keeping) → Sound lim k → view_with lim (encode lim k.plain) (encode_book lim k.kept) ≡ plain_view k.plain
+  pub in_order : (k : Keeping) → Sound lim k → view_with lim (encode lim k.plain) (encode_book lim k.kept) ≡ plain_view k.plain
   pub sums_read : (k : Keeping) → Sound lim k → (row : ℕ) → row < lim.rows
       → (decode_with lim (encode lim k.plain) (encode_book lim k.kept)).plain.sums row ≡ k.plain.sums row
   pub kept_read : (k : Keeping) → Sound lim k → (row block : ℕ)

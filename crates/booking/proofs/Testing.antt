@@ -50,7 +50,7 @@ keepable lim book row block size h l = omega arith
 module _ (lim : Limits) (v : View) (p C row block : ℕ) where
   -- alone, as those of a call that has no slice
   abbrev entry : Call
-  entry = record { tests = entry_tests lim v p C row block; in_order_lem = refl; value = 0; slices = [] }
+  entry = record { tests = entry_tests lim v p C row block; in_order = refl; value = 0; slices = [] }
 
   all_tests : Left entry (of_sizes v.sized ++ of_ticket lim p C row block ++ of_ledger v p C)
   unfolding refused_by
@@ -107,7 +107,7 @@ module _ (lim : Limits) (ledger book : List ℕ) (p C row block : ℕ) (a : Answ
       place lim (view_with lim ledger book) ledger (with_book lim ledger book) p C row block t.sized t.range t.ticket t.same_c
 
   pub mark_inside : mark_at lim row block < length ledger
-  mark_inside = omega (arith, in_place.sized, in_place.row_in_lem, in_place.block_in_lem)
+  mark_inside = omega (arith, in_place.sized, in_place.row_in, in_place.block_in)
 
 -- ---- and then one test of the ticket's mark: of posts and withdrawals its number differs, and what is to hold of the mark
 
@@ -168,7 +168,7 @@ module _ (lim : Limits) (ledger book : List ℕ) (p C row block : ℕ) (sum : Li
     post_known w f =
         let t = known w f in
         let e = may_enter lim v ledger (with_book lim ledger book) p C row block sum t in
-        (t.sum_sized, e, keepable lim book row block (book_sized lim ledger book t.sized) e.row_in_lem e.block_in_lem)
+        (t.sum_sized, e, keepable lim book row block (book_sized lim ledger book t.sized) e.row_in e.block_in)
 
     pub posted : (w x : ℕ) (t u : List ℕ) → a ≡ Finished w → x ≡ field sum 0 16 → t ≡ enter lim ledger row block x → u ≡ keep book row block x
         → Does (book_post_call lim ledger book p C row block sum) (pos 0) (t ∷ u ∷ [])
@@ -197,8 +197,8 @@ module _ (lim : Limits) (ledger book : List ℕ) (p C row block : ℕ) where
         let t = withdraw_taken lim v p C row block (was_worked _ a made w f).0 in
         let e = t.entry in
         let at = place lim v ledger (with_book lim ledger book) p C row block e.sized e.range e.ticket e.same_c in (
-          record { sized = at.sized; row_in_lem = at.row_in_lem; block_in_lem = at.block_in_lem; there = sym at.bit ∙ t.there },
-          keepable lim book row block (book_sized lim ledger book e.sized) at.row_in_lem at.block_in_lem,
+          record { sized = at.sized; row_in = at.row_in; block_in = at.block_in; there = sym at.bit ∙ t.there },
+          keepable lim book row block (book_sized lim ledger book e.sized) at.row_in at.block_in,
         )
 
     pub withdrawn : (w x : ℕ) (t u : List ℕ) → a ≡ Finished w → x ≡ kept_in book row block → t ≡ remove lim ledger row block x

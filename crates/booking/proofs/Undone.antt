@@ -79,7 +79,7 @@ module _ (lim : Limits) (k : Keeping) (o : Sound lim k) where
     kept_out_in : (r b : ℕ) → keeping row block (k.kept row block % modulus) (keeping row block 0 k.kept) r b ≡ k.kept r b
     kept_out_in r b =
         at_or_else row block r b (λ r b. keeping row block (k.kept row block % modulus) (keeping row block 0 k.kept) r b ≡ k.kept r b)
-        (keeping_here row block (k.kept row block % modulus) (keeping row block 0 k.kept) ∙ mod-eq_of_lt (o.kept_in_lem row block))
+        (keeping_here row block (k.kept row block % modulus) (keeping row block 0 k.kept) ∙ mod-eq_of_lt (o.kept_in row block))
         (λ ne. sym (keeping_else row block 0 k.kept r b ne ∙ keeping_else row block (k.kept row block % modulus) (keeping row block 0 k.kept) r b ne))
 
     sums_out_in : (r : ℕ) → adding row (k.kept row block) (adding row (opposite (k.kept row block)) k.plain.sums) r ≡ k.plain.sums r

@@ -19,7 +19,7 @@ unfoldable pub book_post_call : Limits → List ℕ → List ℕ → ℕ → ℕ
 unfolding post_tests
 book_post_call lim ledger book p C row block sum = record {
   tests = post_tests lim (view_with lim ledger book) p C row block sum;
-  in_order_lem = refl;
+  in_order = refl;
   value = 0;
   slices = slice ledger (enter lim ledger row block (value_of sum)) ∷ slice book (keep book row block (value_of sum)) ∷ [];
 }
@@ -29,7 +29,7 @@ unfoldable pub book_sheet_post_call : Limits → List ℕ → List ℕ → List 
 unfolding sheet_tests
 book_sheet_post_call lim ledger book s = record {
   tests = sheet_tests lim (view_with lim ledger book) s;
-  in_order_lem = refl;
+  in_order = refl;
   value = 0;
   slices = slice ledger (foldl (enter_entry lim) ledger (entries s)) ∷ slice book (foldl keep_entry book (entries s)) ∷ [];
 }
@@ -51,7 +51,7 @@ unfoldable pub withdraw_call : Limits → List ℕ → List ℕ → ℕ → ℕ 
 unfolding withdraw_tests
 withdraw_call lim ledger book p C row block = record {
   tests = withdraw_tests lim (view_with lim ledger book) p C row block;
-  in_order_lem = refl;
+  in_order = refl;
   value = 0;
   slices = slice ledger (remove lim ledger row block (kept_in book row block)) ∷ slice book (keep book row block 0) ∷ [];
 }

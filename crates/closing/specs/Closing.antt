@@ -38,7 +38,7 @@ close_by R F v total digits =
       tests =
           of_sizes (v.sized && eqb (length digits) 32) ++ of_order v
           ++ (8 unless all_below (row_count F) (λ row. all_below v.C (λ block. v.marked row block))) ∷ (9 ⇐ eqb d 0) ∷ [];
-      in_order_lem = refl;
+      in_order = refl;
       value = d;
       slices = slice digits (digits_at R F v.p total d ++ drop d digits) ∷ [];
     }

@@ -81,8 +81,8 @@ size_wrong lim s h = ne_eqb (length s) (ledger_size lim) h
 -- where a ticket of its run stands
 pub record Place (lim : Limits) (v : View) (s : List ℕ) (row block : ℕ) : Type 0 where
   pub sized : length s ≡ ledger_size lim
-  pub row_in_lem : row < lim.rows
-  pub block_in_lem : block < 256
+  pub row_in : row < lim.rows
+  pub block_in : block < 256
   pub bit : v.marked row block ≡ bit_in lim s row block
 
 pub place : (lim : Limits) (v : View) (s : List ℕ) → Shows lim v s → (p C row block : ℕ) → v.sized ≡ true → in_range lim p C ≡ true
@@ -91,8 +91,8 @@ place lim v s shows p C row block sized range ticket run =
     let low = ticket_block lim C row block ticket in
     record {
       sized = shows.size sized;
-      row_in_lem = ticket_row lim C row block ticket;
-      block_in_lem = omega (arith, (range_of lim p C range).c_high);
+      row_in = ticket_row lim C row block ticket;
+      block_in = omega (arith, (range_of lim p C range).c_high);
       bit = shows.marks row block ∙ mark_is_bit lim s C row block (run ∙ shows.blocks) ticket;
     }
 
@@ -138,7 +138,7 @@ pub may_enter : (lim : Limits) (v : View) (s : List ℕ) → Shows lim v s → (
     → Enterable lim s row block
 may_enter lim v s shows p C row block sum t =
     let at = place lim v s shows p C row block t.sized t.range t.ticket t.same_c in
-    record { sized = at.sized; row_in_lem = at.row_in_lem; block_in_lem = at.block_in_lem; new = sym at.bit ∙ t.new }
+    record { sized = at.sized; row_in = at.row_in; block_in = at.block_in; new = sym at.bit ∙ t.new }
 
 -- ---- the tests in their order
 

@@ -30,7 +30,7 @@ of_marks new = (7 unless new) ∷ []
 unfoldable pub open_call : Limits → ℕ → ℕ → List ℕ → Call
 open_call lim p C s = record {
   tests = of_sizes (eqb (length s) (ledger_size lim)) ++ of_run lim p C;
-  in_order_lem = refl;
+  in_order = refl;
   value = 0;
   slices = slice s (fresh lim p C) ∷ [];
 }
@@ -45,7 +45,7 @@ unfoldable pub post_call : Limits → List ℕ → ℕ → ℕ → ℕ → ℕ �
 unfolding post_tests
 post_call lim s p C row block sum = record {
   tests = post_tests lim (view_of lim s) p C row block sum;
-  in_order_lem = refl;
+  in_order = refl;
   value = 0;
   slices = slice s (enter lim s row block (value_of sum)) ∷ [];
 }

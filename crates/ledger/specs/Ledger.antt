@@ -97,6 +97,6 @@ enter lim s row block x = mark lim (add_to s row x) row block
 -- what has been tested before a ticket is entered: its row and block have a place in the ledger, whatever its C, and its bit is not set
 pub record Enterable (lim : Limits) (s : List ℕ) (row block : ℕ) : Type 0 where
   pub sized : length s ≡ ledger_size lim
-  pub row_in_lem : row < lim.rows
-  pub block_in_lem : block < 256
+  pub row_in : row < lim.rows
+  pub block_in : block < 256
   pub new : bit_in lim s row block ≡ false

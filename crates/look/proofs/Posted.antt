@@ -49,7 +49,7 @@ is_taken lim ledger b e =
     let C = (range_of lim (sheet_pos b) (sheet_blocks b) t.form.range).c_high in
     record {
       sized = eqb-true (length ledger) (ledger_size lim) t.sized;
-      whole = formed_length b t.form.well_formed_lem;
+      whole = formed_length b t.form.well_formed;
       few_blocks = subst (λ (n : ℕ). n ≤ 256) t.same_c C;
     }
 

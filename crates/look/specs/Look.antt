@@ -27,7 +27,7 @@ unfoldable pub look_call : Limits → List ℕ → List ℕ → List ℕ → Cal
 unfolding look_tests
 look_call lim ledger s total = record {
   tests = look_tests lim (view_of lim ledger) s total;
-  in_order_lem = refl;
+  in_order = refl;
   value = unmarked_in lim (bytes_left (sheet_post_call lim ledger s) 0);
   slices = slice total (bytes_of 16 (total_in lim (bytes_left (sheet_post_call lim ledger s) 0))) ∷ [];
 }

@@ -212,7 +212,7 @@ module _ (a b : Laid) where
   pub swapped : Swapped a b
   swapped = record {
     same_number = swap_number;
-    same_digits_lem = swap_digits;
+    same_digits = swap_digits;
     same_string = λ e apart.
         let here = place_taken a b e in
         place_taken b a (swap_number ∙ e) ∙ rw (other_side apart, same_skipped apart) refl

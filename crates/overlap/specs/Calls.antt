@@ -16,7 +16,7 @@ unfoldable pub overlap_call : Laid → Laid → Call
 unfolding overlap_tests
 overlap_call a b = record {
   tests = overlap_tests a b;
-  in_order_lem = refl;
+  in_order = refl;
   value = 0;
   slices = [];
 }
@@ -69,7 +69,7 @@ unfoldable pub overlap_part_call : Laid → Laid → List ℕ → Call
 unfolding overlap_tests overlap_part_tests
 overlap_part_call a b out = record {
   tests = overlap_part_tests a b out;
-  in_order_lem = refl;
+  in_order = refl;
   value = 0;
   slices = slice out (place_bytes (part_place a b) (length (part_of a b))) ∷ [];
 }

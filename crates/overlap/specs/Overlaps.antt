@@ -43,7 +43,7 @@ pub record Handed (a b : Laid) : Type 0 where
 -- The strings swapped: the same number and the same digits, of the same string unless both end together.
 pub record Swapped (a b : Laid) : Type 0 where
   pub same_number : refused_with b a ≡ refused_with a b
-  pub same_digits_lem : part_of b a ≡ part_of a b
+  pub same_digits : part_of b a ≡ part_of a b
   pub same_string : refused_with a b ≡ 0 → (end a ≡ end b → ⊥) → part_place b a ≡ place (not (part_place a b).second) (part_place a b).at
   pub ending_together : end a ≡ end b → (part_place a b).second ≡ false
 

@@ -84,7 +84,7 @@ post_ready lim s (ticket p C row block sum) e =
 post_ready lim s (sheet b) e =
     let t = sheet_taken lim (plain_view s) b e in
     ready lim s (entries b) (subst (λ (n : ℕ). all_tickets lim n (entries b) ≡ true) t.same_c t.form.tickets) t.new
-    (formed b t.form.well_formed_lem)
+    (formed b t.form.well_formed)
 
 -- ---- one post: both calls test the same table, and put in the tickets that the post names
 

@@ -32,7 +32,7 @@ use Rattle.posting.specs.Calls.{sheet_tests, enter_entry, sheet_post_call, unset
 
 pub record SheetTaken (lim : Limits) (v : View) (s : List ℕ) : Type 0 where
   pub sized : v.sized ≡ true
-  pub sheet_sized_lem : sheet_sized lim s ≡ true
+  pub sheet_sized : sheet_sized lim s ≡ true
   pub form : SheetPassed lim s
   pub ordered : v.ordered ≡ true
   pub same_p : sheet_pos s ≡ v.p
@@ -47,7 +47,7 @@ sheet_taken lim v s e =
     let l = ledger_passed v (sheet_pos s) (sheet_blocks s) _ form.1 in
     record {
       sized = and_left v.sized _ sizes.0;
-      sheet_sized_lem = and_right v.sized _ sizes.0;
+      sheet_sized = and_right v.sized _ sizes.0;
       form = form.0;
       ordered = l.0;
       same_p = l.1;
@@ -91,8 +91,8 @@ pub may_enter_all : (lim : Limits) (v : View) (ledger s : List ℕ) → Shows li
 may_enter_all lim v ledger s shows t =
     let form = t.form in
     record {
-      whole = formed_length s form.well_formed_lem;
-      ascends = formed s form.well_formed_lem;
+      whole = formed_length s form.well_formed;
+      ascends = formed s form.well_formed;
       sized = shows.size t.sized;
       placed = all_known lim ledger (sheet_pos s) (sheet_blocks s) (entries s) form.range form.tickets;
       new = sym (by_bits lim ledger (sheet_pos s) (sheet_blocks s) (entries s) form.range form.tickets v shows t.same_c) ∙ t.new;
@@ -157,7 +157,7 @@ module _ {lim : Limits} {v : View} {ledger s : List ℕ} {call : Call} (posts : 
 
           pub may_look : (16 + 4 * e ≤ length s) × (length ledger ≡ ledger_size lim) × (all_tickets lim 256 (entries_from s 0 e) ≡ true)
           may_look =
-              let l = formed_length s form.well_formed_lem in
+              let l = formed_length s form.well_formed in
               (omega (arith, l, counted), posts.shows.size sized, ap (all_tickets lim 256) (sym all) ∙ all_known lim ledger _ _ (entries s) form.range form.tickets)
 
           module _ (n : Bool) (none : n ≡ every (unset lim ledger) (entries_from s 0 e)) where

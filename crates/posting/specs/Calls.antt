@@ -27,7 +27,7 @@ unfoldable pub sheet_post_call : Limits → List ℕ → List ℕ → Call
 unfolding sheet_tests
 sheet_post_call lim ledger s = record {
   tests = sheet_tests lim (view_of lim ledger) s;
-  in_order_lem = refl;
+  in_order = refl;
   value = 0;
   slices = slice ledger (foldl (enter_entry lim) ledger (entries s)) ∷ [];
 }

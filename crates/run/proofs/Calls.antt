@@ -40,7 +40,7 @@ all_change n (s ∷ ss) e = ap₂ (λ (x : List ℕ) (l : List (List ℕ)). x �
 pub every_call : (c : Call) → WorkedOrRefused c
 unfolding refused_by answered all_left
 every_call c = record {
-  in_table = at_most last_number c.tests (and_right (ascend_above 0 c.tests) _ c.in_order_lem);
+  in_table = at_most last_number c.tests (and_right (ascend_above 0 c.tests) _ c.in_order);
   worked = λ z. sym (finished (refusal c.tests) c.value z);
   refused = λ f. (negated (refusal c.tests) c.value f, all_stay _ c.slices f);
 }
@@ -48,7 +48,7 @@ every_call c = record {
 -- it refuses by the smallest number that applies
 pub by_smallest : (c : Call) → Smallest c.tests (refused_by c)
 unfolding refused_by
-by_smallest c = smallest c.tests (and_left (ascend_above 0 c.tests) _ c.in_order_lem)
+by_smallest c = smallest c.tests (and_left (ascend_above 0 c.tests) _ c.in_order)
 
 -- slice i of what is left
 pub leaves : (c : Call) {after : List (List ℕ)} → after ≡ all_left c → (i : ℕ) → get_or after i [] ≡ bytes_left c i

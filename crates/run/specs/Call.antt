@@ -14,7 +14,7 @@ slice was becomes = record { was = was; becomes = becomes }
 -- The numbers of a call's tests ascend and are numbers of the table: that is computed where the call is defined.
 pub record Call : Type 0 where
   pub tests : List Test
-  pub in_order_lem : numbered tests ≡ true
+  pub in_order : numbered tests ≡ true
   pub value : ℕ
   pub slices : List Slice
 

@@ -88,6 +88,6 @@ module _ (F : Formula) (p : ℕ) (r : Row) where
 
 pub same_sum : SameSum
 same_sum = record {
-  by_halves_lem = λ F p r first count depth h. by_halves_lem F p r depth first count h ∙ sym (in_order_lem F p r first count);
-  in_order_lem = λ F p r first count. in_order_lem F p r first count;
+  by_halves = λ F p r first count depth h. by_halves_lem F p r depth first count h ∙ sym (in_order_lem F p r first count);
+  in_order = λ F p r first count. in_order_lem F p r first count;
 }

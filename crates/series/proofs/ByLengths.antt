@@ -123,4 +123,4 @@ module _ (F : Formula) (p : ℕ) (r : Row) where
     by_lengths_lem h = sym (from 57) ∙ ap (λ (i : ℕ). sum (squarings F p r) i (end - i)) (start h)
 
 pub squarings_agree : SquaringsAgree
-squarings_agree F p r s h = record { by_lengths_lem = λ first end o. by_lengths_lem F p r s first end o h; at_most = at_most F p r h }
+squarings_agree F p r s h = record { by_lengths = λ first end o. by_lengths_lem F p r s first end o h; at_most = at_most F p r h }

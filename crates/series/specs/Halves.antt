@@ -27,6 +27,6 @@ by_halves F p r (suc depth) first count =
 -- The law, for every formula, row and range: adding by halves comes to the same as adding from the first term to the last, and both to the
 -- range's signed sum. Up to 2 ^ depth terms take no more than `depth` cuts one inside the other.
 pub record SameSum : Type 0 where
-  pub by_halves_lem : (F : Formula) (p : ℕ) (r : Row) (first count depth : ℕ) → count ≤ 2 ^ depth
+  pub by_halves : (F : Formula) (p : ℕ) (r : Row) (first count depth : ℕ) → count ≤ 2 ^ depth
       → by_halves F p r depth first count ≡ first_to_last F p r first count
-  pub in_order_lem : (F : Formula) (p : ℕ) (r : Row) (first count : ℕ) → first_to_last F p r first count ≡ range_sum F p r first count
+  pub in_order : (F : Formula) (p : ℕ) (r : Row) (first count : ℕ) → first_to_last F p r first count ≡ range_sum F p r first count

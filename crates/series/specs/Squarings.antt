@@ -37,7 +37,7 @@ Short p r = rise p r < 64 + 2 ^ 63
 -- The law, for every formula in which E falls, every row and every range, where no E - 64 has more than 63 bits: the two sums are the same, and no
 -- term takes more than 62.
 pub record SameSquarings (F : Formula) (p : ℕ) (r : Row) : Type 0 where
-  pub by_lengths_lem : (first end : ℕ) → first ≤ end → by_lengths F p r first end ≡ range_squarings F p r first (end - first)
+  pub by_lengths : (first end : ℕ) → first ≤ end → by_lengths F p r first end ≡ range_squarings F p r first (end - first)
   pub at_most : (first count : ℕ) → range_squarings F p r first count ≤ 62 * count
 
 abbrev pub SquaringsAgree : Type 0

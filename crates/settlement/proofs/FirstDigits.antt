@@ -1,5 +1,5 @@
 -- What demand 3 gives at a position that can be worked out: every list that fills the run closes with known digits. At position 1 these
--- are the first hexadecimal digits of pi, thirty by Bellard's formula, and twenty_nine of them by the check runs'.
+-- are the first hexadecimal digits of pi, thirty by Bellard's formula, and twenty-nine of them by the check runs'.
 -- Assumes nothing.
 use mathlib.Core.Path.{◌≡◌, refl, ap, ◌∙◌, subst}
 use mathlib.Core.List.{List, ◌++◌}

@@ -101,7 +101,7 @@ halved_within F depth s h = record {
 }
   where
     by_halves_lem : (F : Formula) (p : ℕ) (r : Row) (first count depth : ℕ) → count ≤ 2 ^ depth → by_halves F p r depth first count ≡ range_sum F p r first count
-    by_halves_lem F p r first count depth h = same_sum.by_halves_lem F p r first count depth h ∙ same_sum.in_order_lem F p r first count
+    by_halves_lem F p r first count depth h = same_sum.by_halves F p r first count depth h ∙ same_sum.in_order F p r first count
 
 pub depths : Depths
 unfolding cut bound term_count

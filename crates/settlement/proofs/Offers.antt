@@ -236,7 +236,7 @@ module _ (F : Formula) (p C : ℕ) (fits : F.last < 2 ^ 64) where
     unfolding row_sums
     rows_right row h =
         let s = from_opened range bookings in
-        sym (s.sound.adds_up_lem row h)
+        sym (s.sound.adds_up row h)
         ∙ ap (λ (n : ℕ). sum (last.kept row) 0 n % modulus) s.run.1
         ∙ ap (λ (n : ℕ). n % modulus)
         (sum_ext (last.kept row) (λ block. ticket_sum F p C row block) 0 C (λ block l u. (right_in row block (is_ticket_lem (limits_of F) C row block h (omega arith))).1))

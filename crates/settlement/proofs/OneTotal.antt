@@ -117,4 +117,4 @@ module _ (F : Formula) (fits : F.last < 2 ^ 64) where
 
   -- Digits come out as before
   pub as_before : AsBefore F
-  as_before = record { same_as_one = same_as_one; by_total_lem = by_total_lem }
+  as_before = record { same_as_one = same_as_one; by_total = by_total_lem }

@@ -111,12 +111,12 @@ record Passed (lim : Limits) (s : List ℕ) : Type 0 where
 module _ (F : Formula) (fits : Fits F) (s out : List ℕ) (bytes : AllBytes s) (acc : Passed (limits_of F) s) (right : RightSums F s)
     (room : length s ≤ length out) where
   length_is : length s ≡ sheet_length (sheet_count s)
-  length_is = formed_length s acc.form.well_formed_lem
+  length_is = formed_length s acc.form.well_formed
 
   again : sheet_of (sheet_pos s) (sheet_blocks s) (entries s) ≡ s
   unfolding well_formed
   again =
-      let zeros = and_left _ (ascending (entries s)) acc.form.well_formed_lem in
+      let zeros = and_left _ (ascending (entries s)) acc.form.well_formed in
       let head = and_left _ (all_below (sheet_count s) (λ i. eqb (get_or s (17 + 4 * i) 0) 0)) zeros in
       let each = and_right (eqb (length s) (sheet_length (sheet_count s)) && eqb (field s 12 4) 0) _ zeros in
       sheet_again s bytes length_is (eqb-true _ _ (and_right (eqb (length s) (sheet_length (sheet_count s))) _ head))
@@ -145,7 +145,7 @@ module _ (F : Formula) (fits : Fits F) (s out : List ℕ) (bytes : AllBytes s) (
         short = omega (arith, h, l, m);
         room = rw half (omega (arith, l, room));
         range = acc.form.range;
-        ascends = ap ascending listed_are ∙ formed s acc.form.well_formed_lem;
+        ascends = ap ascending listed_are ∙ formed s acc.form.well_formed;
         tickets = ap (all_tickets (limits_of F) (sheet_blocks s)) listed_are ∙ acc.form.tickets;
       }
 
@@ -166,7 +166,7 @@ read_passed lim s list sums e =
     record { short = (sheet_fits lim s (and_left (sheet_sized lim s) _ sizes.0)).1; form = (sheet_passed lim s [] sizes.1).0 }
 
 post_passed : (lim : Limits) (v : View) (s : List ℕ) → refusal (sheet_tests lim v s) ≡ 0 → Passed lim s
-post_passed lim v s e = let t = sheet_taken lim v s e in record { short = (sheet_fits lim s t.sheet_sized_lem).1; form = t.form }
+post_passed lim v s e = let t = sheet_taken lim v s e in record { short = (sheet_fits lim s t.sheet_sized).1; form = t.form }
 
 was_passed : (lim : Limits) (s : List ℕ) → Accepted lim s → Passed lim s
 unfolding read_call answered sheet_post_call book_sheet_post_call refused_by

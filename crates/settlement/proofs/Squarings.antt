@@ -55,7 +55,7 @@ module _ (F : Formula) (near : F.last < 2 ^ 64) (c : Countable F) (p C row block
     by_lengths_lem : (part : Part)
         → by_lengths F p (row_at F row) (part_first F part p C block) (part_end F part p C block) ≡ part_squarings F part p C row block
     unfolding part_squarings
-    by_lengths_lem part = agree.by_lengths_lem _ _ (ordered F p C block r (ticket_block _ C row block t) part).0
+    by_lengths_lem part = agree.by_lengths _ _ (ordered F p C block r (ticket_block _ C row block t) part).0
 
     halves : part_squarings F Lower p C row block + part_squarings F Upper p C row block ≡ part_squarings F Whole p C row block
     unfolding part_squarings range_squarings
@@ -117,12 +117,12 @@ blocks F p C row r = all_blocks (squarings F p (row_at F row)) (term_count F p) 
 pub squarings_hold : (F : Formula) → F.last < 2 ^ 64 → Countable F → Squarings F
 squarings_hold F near c = record {
   counted = λ part p C row block out count. counted F near c p C row block part out count;
-  wrong_size_lem = λ part p C row block out count. wrong_size_lem F part p C row block out count;
+  wrong_size = λ part p C row block out count. wrong_size_lem F part p C row block out count;
   at_most = λ part p C row block r t. at_most F near c p C row block r t part;
   halves = λ p C row block r t. halves F near c p C row block r t;
   blocks = blocks F;
   quoted = λ part p C row block out count. quoted F part p C row block out count;
-  by_lengths_lem = λ part p C row block r t. by_lengths_lem F near c p C row block r t part;
+  by_lengths = λ part p C row block r t. by_lengths_lem F near c p C row block r t part;
 }
 
 pub countable : (f : Series) → Countable (formula_of f)

@@ -86,7 +86,7 @@ first_digits =
     50 ∷ 52 ∷ 51 ∷ 70 ∷ 54 ∷ 65 ∷ 56 ∷ 56 ∷ 56 ∷ 53 ∷ 65 ∷ 51 ∷ 48 ∷ 56 ∷ 68 ∷ 51 ∷ 49 ∷ 51 ∷ 49 ∷ 57 ∷ 56 ∷ 65 ∷ 50 ∷ 69 ∷ 48 ∷ 51 ∷ 55 ∷ 48 ∷ 55
     ∷ 51 ∷ []
 
--- At position 1 every list that fills the run closes with these: with all thirty by Bellard's formula, with twenty_nine by the check runs'.
+-- At position 1 every list that fills the run closes with these: with all thirty by Bellard's formula, with twenty-nine by the check runs'.
 pub record FirstDigits : Type 0 where
   pub by_bellard : ClosesWith bellard 1 30 first_digits
   pub by_check : ClosesWith check 1 29 (take 29 first_digits)

@@ -75,5 +75,5 @@ pub record SameTotal (lim : Limits) (s t : List ℕ) : Type 0 where
 pub record AsBefore (F : Formula) : Type 0 where
   pub same_as_one : (p C : ℕ) → in_range (limits_of F) p C ≡ true → (posts : List Post) → SameAsOne F p C posts
   -- a closing depends on a ledger through run, marks and total alone
-  pub by_total_lem : (s t : List ℕ) → SameTotal (limits_of F) s t → (digits : List ℕ)
+  pub by_total : (s t : List ℕ) → SameTotal (limits_of F) s t → (digits : List ℕ)
       → (answered (close_call F s digits) ≡ answered (close_call F t digits)) × (bytes_left (close_call F s digits) 0 ≡ bytes_left (close_call F t digits) 0)

@@ -22,7 +22,7 @@ pub record Squarings (F : Formula) : Type 0 where
   pub counted : (part : Part) (p C row block : ℕ) (out count : List ℕ) → answered (work_call F part p C row block out count) ≡ pos 0
       → value_of (bytes_left (work_call F part p C row block out count) 1) ≡ part_squarings F part p C row block
   -- a wrong size of either slice is refusal 1, and neither is written
-  pub wrong_size_lem : (part : Part) (p C row block : ℕ) (out count : List ℕ) → (length out ≡ 16 → ⊥) ⊎ (length count ≡ 16 → ⊥)
+  pub wrong_size : (part : Part) (p C row block : ℕ) (out count : List ℕ) → (length out ≡ 16 → ⊥) ⊎ (length count ≡ 16 → ⊥)
       → (answered (work_call F part p C row block out count) ≡ neg_ℤ (pos 1))
       × (bytes_left (work_call F part p C row block out count) 0 ≡ out) × (bytes_left (work_call F part p C row block out count) 1 ≡ count)
   -- at most 62 for each term, and the halves make the whole
@@ -38,7 +38,7 @@ pub record Squarings (F : Formula) : Type 0 where
       → (answered (quote_call F part p C row block count) ≡ answered (work_call F part p C row block out count))
       × (bytes_left (quote_call F part p C row block count) 0 ≡ bytes_left (work_call F part p C row block out count) 1)
   -- the sum over bit lengths is the sum over terms
-  pub by_lengths_lem : (part : Part) (p C row block : ℕ) → in_range (limits_of F) p C ≡ true → is_ticket (limits_of F) C row block ≡ true
+  pub by_lengths : (part : Part) (p C row block : ℕ) → in_range (limits_of F) p C ≡ true → is_ticket (limits_of F) C row block ≡ true
       → by_lengths F p (row_at F row) (part_first F part p C block) (part_end F part p C block) ≡ part_squarings F part p C row block
 
 -- ---- figures, which no document gives

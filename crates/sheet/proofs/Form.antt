@@ -122,7 +122,7 @@ module _ (F : Formula) (p C : ℕ) (list : List ℕ) where
 
 pub record SheetPassed (lim : Limits) (s : List ℕ) : Type 0 where
   pub range : in_range lim (sheet_pos s) (sheet_blocks s) ≡ true
-  pub well_formed_lem : well_formed s ≡ true
+  pub well_formed : well_formed s ≡ true
   pub tickets : all_tickets lim (sheet_blocks s) (entries s) ≡ true
 
 pub sheet_passed : (lim : Limits) (s : List ℕ) (ts : List Test) → refusal (of_sheet lim s ++ ts) ≡ 0 → SheetPassed lim s × (refusal ts ≡ 0)
@@ -130,7 +130,7 @@ sheet_passed lim s ts e =
     let run = passed 1 _ _ e in
     let form = passed 2 _ _ run.1 in
     let tickets = passed 3 _ ts form.1 in
-    (record { range = run.0; well_formed_lem = form.0; tickets = tickets.0 }, tickets.1)
+    (record { range = run.0; well_formed = form.0; tickets = tickets.0 }, tickets.1)
 
 pub record ListPassed (F : Formula) (p C : ℕ) (list : List ℕ) : Type 0 where
   pub range : in_range (limits_of F) p C ≡ true

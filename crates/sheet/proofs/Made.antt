@@ -69,7 +69,7 @@ module _ (lim : Limits) (p C : ℕ) (ts : List Entry) (t : Sheetable lim p C ts)
   pub passes : SheetPassed lim (sheet_of p C ts)
   passes = record {
     range = rw (pos_is, blocks_are) t.range;
-    well_formed_lem = written_formed p C ts p_fits c_fits count_fits t.fits t.ascends;
+    well_formed = written_formed p C ts p_fits c_fits count_fits t.fits t.ascends;
     tickets = rw (blocks_are, entries_are) t.tickets;
   }
 
@@ -83,6 +83,6 @@ module _ (lim : Limits) (p C : ℕ) (ts : List Entry) (t : Sheetable lim p C ts)
         le-leb (2 * length ts) (length list) a,
         le-leb (16 * length ts) (length sums) b,
         passes.range,
-        passes.well_formed_lem,
+        passes.well_formed,
         passes.tickets,
       ) refl

@@ -80,7 +80,7 @@ module _ (lim : Limits) (s list sums : List ℕ) where
           let room = and_right (sheet_sized lim s) rooms sizes.0 in
           let list-room = leb-true (2 * sheet_count s) (length list) (and_left _ (leb (16 * sheet_count s) (length sums)) room) in
           let sums-room = leb-true (16 * sheet_count s) (length sums) (and_right (leb (2 * sheet_count s) (length list)) _ room) in
-          let long = formed_length s (sheet_passed lim s [] sizes.1).0.well_formed_lem in
+          let long = formed_length s (sheet_passed lim s [] sizes.1).0.well_formed in
           let count = no_number.1 in
           (count, omega (arith, long, count), omega (arith, list-room, count), omega (arith, sums-room, count))
 

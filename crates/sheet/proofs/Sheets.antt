@@ -1,4 +1,4 @@
--- Sheets and lists made of tickets. What is written of tickets has just these tickets and is well formed, and a well_formed_lem sheet is what is written
+-- Sheets and lists made of tickets. What is written of tickets has just these tickets and is well formed, and a well-formed sheet is what is written
 -- of its tickets; a list is that of its tickets, and tickets are those of their list.
 -- Assumes nothing.
 use mathlib.Core.Path.{◌≡◌, refl, sym, ap, ap₂, ◌∙◌, subst}
@@ -102,7 +102,7 @@ module _ (p C : ℕ) (ts : List Entry) (p_fits : p < 2 ^ 64) (c_fits : C < 65536
   entries_read = ap (entries_from (sheet_of p C ts) 0) count_read
       ∙ read_from (sheet_of p C ts) (length ts) count_read 0 ts (bodies_of ts) [] fits refl bodies_there
 
--- ---- a well_formed_lem sheet is the one written of its tickets
+-- ---- a well-formed sheet is the one written of its tickets
 
 module _ (s : List ℕ) (bytes : AllBytes s) where
   contents_again : (n i : ℕ) → 16 + 4 * (i + n) ≤ length s → ((j : ℕ) → j < i + n → get_or s (17 + 4 * j) 0 ≡ 0)

@@ -21,7 +21,7 @@ unfoldable pub write_call : Formula → ℕ → ℕ → List ℕ → List ℕ �
 unfolding write_tests
 write_call F p C list out = record {
   tests = write_tests F p C list out;
-  in_order_lem = refl;
+  in_order = refl;
   value = sheet_length (length list / 2);
   slices = slice out (over (sheet_of p C (listed F p C list)) out) ∷ [];
 }
@@ -36,7 +36,7 @@ unfoldable pub read_call : Limits → List ℕ → List ℕ → List ℕ → Cal
 unfolding read_tests
 read_call lim s list sums = record {
   tests = read_tests lim s list sums;
-  in_order_lem = refl;
+  in_order = refl;
   value = sheet_count s;
   slices = slice list (over (list_of (entries s)) list) ∷ slice sums (over (bodies_of (entries s)) sums) ∷ [];
 }

@@ -93,7 +93,7 @@ put_back_in lim k o ts all = record {
       tickets_in (opened_keeping k.plain.p k.plain.C) ts row block ∙ or_false (contains ts row block) ∙ all.have row block;
   same_kept = λ row block.
       sums_kept k.kept (opened_keeping k.plain.p k.plain.C) ts
-      (λ t m. ap (λ (n : ℕ). n % modulus) (all.carry t m) ∙ mod-eq_of_lt (o.kept_in_lem t.row t.block)) row block
+      (λ t m. ap (λ (n : ℕ). n % modulus) (all.carry t m) ∙ mod-eq_of_lt (o.kept_in t.row t.block)) row block
       ∙ ap (λ (b : Bool). cond b (k.kept row block) 0) (all.have row block) ∙ or_zero row block (k.plain.tickets row block) refl;
 }
   where
@@ -111,9 +111,9 @@ module _ (lim : Limits) (k l : Keeping) (o : Sound lim k) (u : Sound lim l) (a :
   -- a row's sum is that of what is kept for its tickets
   row_sums_lem : (row : ℕ) → row < lim.rows → k.plain.sums row ≡ l.plain.sums row
   row_sums_lem row h =
-      sym (o.adds_up_lem row h)
+      sym (o.adds_up row h)
       ∙ ap₂ (λ (f : ℕ → ℕ) (n : ℕ). sum f 0 n % modulus) (λ i block. a.same_kept row block i) a.same_c
-      ∙ u.adds_up_lem row h
+      ∙ u.adds_up row h
 
   pub same_ledger : encode lim k.plain ≡ encode lim l.plain
   unfolding encode

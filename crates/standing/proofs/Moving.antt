@@ -95,7 +95,7 @@ module _ (F : Formula) (few_rows : row_count F < 256) (fits : F.last < 2 ^ 64) w
       tickets = every_member _ ts (λ t m. o.tickets_in t.row t.block (there t m));
       fits = fit_members ts (λ t m.
           let low = ticket_low lim p C t.row t.block o.range (o.tickets_in t.row t.block (there t m)) in
-          (omega arith, subst (λ (n : ℕ). n < modulus) (sym (all.carry t m)) (o.kept_in_lem t.row t.block)));
+          (omega arith, subst (λ (n : ℕ). n < modulus) (sym (all.carry t m)) (o.kept_in t.row t.block)));
     }
 
     reads_as : ReadsAs lim p C ts b
@@ -126,7 +126,7 @@ module _ (F : Formula) (few_rows : row_count F < 256) (fits : F.last < 2 ^ 64) w
         rw (
           sized lim p C ts made,
           g.range,
-          g.well_formed_lem,
+          g.well_formed,
           g.tickets,
           eq-eqb _ _ (pos_is lim p C ts made),
           eq-eqb _ _ (blocks_are lim p C ts made),
@@ -330,7 +330,7 @@ module _ (F : Formula) (few_rows : row_count F < 256) (fits : F.last < 2 ^ 64) w
 
   pub standings : Standings F
   standings = record {
-    in_order_lem = λ ledger book b c z o. held lim fits (pair ledger book) b c z o;
+    in_order = λ ledger book b c z o. held lim fits (pair ledger book) b c z o;
     after = λ p C range bookings. (after_fresh lim fits p C range bookings).1;
     stands = λ s k h. subst (λ (q : Pair). Stands lim q k) (sym h.0) (stands k h.1);
     same_bytes = same_bytes;

@@ -100,7 +100,7 @@ AllRight F k = (row block : ℕ) → k.plain.tickets row block ≡ true → k.ke
 
 pub record Standings (F : Formula) : Type 0 where
   -- a ledger and a book that have their sizes and are in order together hold a plain ledger, and so do those that any posts and withdrawals leave
-  pub in_order_lem : (ledger book : List ℕ) → AllBytes ledger → AllBytes book → (view_with (limits_of F) ledger book).sized ≡ true
+  pub in_order : (ledger book : List ℕ) → AllBytes ledger → AllBytes book → (view_with (limits_of F) ledger book).sized ≡ true
       → (view_with (limits_of F) ledger book).ordered ≡ true → Holding (limits_of F) (pair ledger book) (decode_with (limits_of F) ledger book)
   pub after : (p C : ℕ) → in_range (limits_of F) p C ≡ true → (bookings : List Booking)
       → Holding (limits_of F) (pair_after (limits_of F) p C bookings) (keeping_after (limits_of F) p C bookings)

@@ -50,7 +50,7 @@ unfoldable pub standing_call : Limits → List ℕ → List ℕ → List ℕ →
 unfolding standing_tests
 standing_call lim ledger book out = record {
   tests = standing_tests lim ledger book out;
-  in_order_lem = refl;
+  in_order = refl;
   value = sheet_length (set_bits lim ledger);
   slices = slice out (over (standing_sheet lim ledger book) out) ∷ [];
 }

@@ -26,7 +26,7 @@ unfoldable pub work_call : Formula → Part → ℕ → ℕ → ℕ → ℕ → 
 unfolding part_tests
 work_call F part p C row block out squarings = record {
   tests = part_tests F p C row block (both_sized out squarings);
-  in_order_lem = refl;
+  in_order = refl;
   value = 0;
   slices = slice out (bytes_of 16 (part_sum F part p C row block)) ∷ slice squarings (bytes_of 16 (part_squarings F part p C row block)) ∷ [];
 }
@@ -35,7 +35,7 @@ unfoldable pub quote_call : Formula → Part → ℕ → ℕ → ℕ → ℕ →
 unfolding part_tests
 quote_call F part p C row block squarings = record {
   tests = part_tests F p C row block (is_sized squarings);
-  in_order_lem = refl;
+  in_order = refl;
   value = 0;
   slices = slice squarings (bytes_of 16 (part_squarings F part p C row block)) ∷ [];
 }

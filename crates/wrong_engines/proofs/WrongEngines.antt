@@ -1,5 +1,5 @@
 -- The engine is none of the wrong engines. Closings part from it at p = 1, which settles thirty digits, or at p = 5, which settles
--- twenty_nine, or on a full ledger whose total lies at the edge of a digit; tickets, halves and posts at p = 1 with one block, in rows 0 and 1; counts of
+-- twenty-nine, or on a full ledger whose total lies at the edge of a digit; tickets, halves and posts at p = 1 with one block, in rows 0 and 1; counts of
 -- squarings at p = 1 and p = 51, in rows 0, 2 and 3, and at the last position; looks at a fresh ledger of p = 1; withdrawals by books that keep one sum at a wrong place;
 -- the sheet of one ticket that keeps zero; parts of two strings that differ.
 -- Assumes nothing.
@@ -611,39 +611,39 @@ handed_at_twelve_lem same = let z : ◌≡◌ {A = ℕ} 4 0 = ap (λ (w : Place)
 pub shut_out : ShutOut
 unfolding word_bound bound term_count settled_toward_zero toward_zero settled_at settled settled_up_to low high sameℤ charges side_sum over_rows row_sum sum on_side is_added is_charged
 shut_out = record {
-  always_nine_lem = always_nine_lem;
-  nine_unseen_lem = nine_unseen_lem;
-  always_eight_lem = always_eight_lem;
-  made_up_lem = made_up_lem;
-  one_less_lem = one_less_lem;
+  always_nine = always_nine_lem;
+  nine_unseen = nine_unseen_lem;
+  always_eight = always_eight_lem;
+  made_up = made_up_lem;
+  one_less = one_less_lem;
   one_set_of_digits = one_set_of_digits;
   row_left_out = row_left_out;
   no_carry = no_carry;
   zero_uncharged = wrong_rules.0;
-  every_term_lem = wrong_rules.1;
-  every_subtracted_lem = wrong_rules.2;
-  every_added_lem = wrong_rules.3;
-  one_sum_lem = one_sum_lem;
-  cut_in_both_lem = cut_in_both_lem;
-  cut_in_neither_lem = cut_in_neither_lem;
+  every_term = wrong_rules.1;
+  every_subtracted = wrong_rules.2;
+  every_added = wrong_rules.3;
+  one_sum = one_sum_lem;
+  cut_in_both = cut_in_both_lem;
+  cut_in_neither = cut_in_neither_lem;
   one_half_twice = one_half_twice;
-  own_signs_lem = own_signs_lem;
-  top_bit_too_lem = wrong_counts.0;
+  own_signs = own_signs_lem;
+  top_bit_too = wrong_counts.0;
   counted_at_127 = wrong_counts.1;
   not_counted_at_128 = wrong_counts.2;
-  of_whole_e_lem = wrong_counts.3;
-  in_one_word_lem = in_one_word_lem;
+  of_whole_e = wrong_counts.3;
+  in_one_word = in_one_word_lem;
   whole_for_lower = whole_for_a_half.0;
   whole_for_upper = whole_for_a_half.1;
-  unmarked_now_lem = unmarked_now_lem;
-  total_now_lem = total_now_lem;
+  unmarked_now = unmarked_now_lem;
+  total_now = total_now_lem;
   untested = untested;
-  does_nothing_lem = does_nothing_lem;
-  fills_first_lem = fills_first_lem;
-  against_total_lem = against_total_lem;
-  below_c_lem = below_c_lem;
-  zeros_left_out_lem = zeros_left_out_lem;
-  handed_at_twelve_lem = handed_at_twelve_lem;
+  does_nothing = does_nothing_lem;
+  fills_first = fills_first_lem;
+  against_total = against_total_lem;
+  below_c = below_c_lem;
+  zeros_left_out = zeros_left_out_lem;
+  handed_at_twelve = handed_at_twelve_lem;
   product_in_a_word = (refl, λ e. omega (arith, e));
   rounded_toward_zero = (refl, refl);
 }

@@ -70,11 +70,11 @@ unfoldable pub always_eight : List ℕ → List ℕ → ℤ
 always_eight s digits =
     answer (refusal ((1 ⇐ wrong_size s digits) ∷ (5 ⇐ not (in_order lim s)) ∷ (8 ⇐ true) ∷ [])) 0
 
--- a made_up_lem d: one number for all ledgers that settle a digit
+-- a made-up d: one number for all ledgers that settle a digit
 unfoldable pub made_up : ℕ → List ℕ → List ℕ → ℤ
 made_up d s digits = answer (refused_by (close_by is_charged bellard (view_of lim s) (total_in lim s) digits)) d
 
--- a made_up_lem d: one less than the greatest that the distance settles
+-- a made-up d: one less than the greatest that the distance settles
 unfoldable pub one_less : List ℕ → List ℕ → ℤ
 one_less s digits = answer (refused_by (close_by is_charged bellard (view_of lim s) (total_in lim s) digits)) (settled_at is_charged bellard (pos_in s) (total_in lim s) - 1)
 
@@ -320,41 +320,41 @@ pub record Met : Type 0 where
 -- ---- the engine is none of the wrong ones
 
 pub record ShutOut : Type 0 where
-  pub always_nine_lem : AnswersAs always_nine → ⊥
-  pub nine_unseen_lem : AnswersAs nine_unseen → ⊥
-  pub always_eight_lem : AnswersAs always_eight → ⊥
-  pub made_up_lem : (d : ℕ) → AnswersAs (made_up d) → ⊥
-  pub one_less_lem : AnswersAs one_less → ⊥
+  pub always_nine : AnswersAs always_nine → ⊥
+  pub nine_unseen : AnswersAs nine_unseen → ⊥
+  pub always_eight : AnswersAs always_eight → ⊥
+  pub made_up : (d : ℕ) → AnswersAs (made_up d) → ⊥
+  pub one_less : AnswersAs one_less → ⊥
   pub one_set_of_digits : (w : List ℕ) → LeavesAs (same_digits w) → ⊥
   pub row_left_out : (row : ℕ) → row < 7 → LeavesAs (by_total (without_row row)) → ⊥
   pub no_carry : LeavesAs (by_total without_carry) → ⊥
   pub zero_uncharged : ClosesAs (by_rule above_zero) → ⊥
-  pub every_term_lem : ClosesAs (by_rule every_term) → ⊥
-  pub every_subtracted_lem : ClosesAs (by_rule every_subtracted) → ⊥
-  pub every_added_lem : ClosesAs (by_rule every_added) → ⊥
-  pub one_sum_lem : (w : List ℕ) → WorksAs Whole (one_sum w) → ⊥
-  pub cut_in_both_lem : WorksAs Lower cut_in_both → ⊥
-  pub cut_in_neither_lem : WorksAs Upper cut_in_neither → ⊥
+  pub every_term : ClosesAs (by_rule every_term) → ⊥
+  pub every_subtracted : ClosesAs (by_rule every_subtracted) → ⊥
+  pub every_added : ClosesAs (by_rule every_added) → ⊥
+  pub one_sum : (w : List ℕ) → WorksAs Whole (one_sum w) → ⊥
+  pub cut_in_both : WorksAs Lower cut_in_both → ⊥
+  pub cut_in_neither : WorksAs Upper cut_in_neither → ⊥
   pub one_half_twice : WorksAs Upper (λ p C row block out count. bytes_left (work_call bellard Lower p C row block out count) 0) → ⊥
-  pub own_signs_lem : WorksAs Upper own_signs → ⊥
+  pub own_signs : WorksAs Upper own_signs → ⊥
   -- whether a ticket or a half is worked or quoted
-  pub top_bit_too_lem : (way : Way) (part : Part) → CountsAs way part (counted_by 128 top_bit_too) → ⊥
+  pub top_bit_too : (way : Way) (part : Part) → CountsAs way part (counted_by 128 top_bit_too) → ⊥
   pub counted_at_127 : (way : Way) (part : Part) → CountsAs way part (counted_by 127 right_of) → ⊥
   pub not_counted_at_128 : (way : Way) (part : Part) → CountsAs way part (counted_by 129 right_of) → ⊥
-  pub of_whole_e_lem : (way : Way) (part : Part) → CountsAs way part (counted_by 128 of_whole_e) → ⊥
+  pub of_whole_e : (way : Way) (part : Part) → CountsAs way part (counted_by 128 of_whole_e) → ⊥
   -- no half takes more than a word holds
-  pub in_one_word_lem : (way : Way) → CountsAs way Whole in_one_word → ⊥
+  pub in_one_word : (way : Way) → CountsAs way Whole in_one_word → ⊥
   pub whole_for_lower : (way : Way) → CountsAs way Lower of_whole → ⊥
   pub whole_for_upper : (way : Way) → CountsAs way Upper of_whole → ⊥
-  pub unmarked_now_lem : RemainAs unmarked_now → ⊥
-  pub total_now_lem : TotalsAs total_now → ⊥
+  pub unmarked_now : RemainAs unmarked_now → ⊥
+  pub total_now : TotalsAs total_now → ⊥
   pub untested : (A : List ℕ → List ℕ → List ℕ → ℕ) → LooksUntested A → ⊥
-  pub does_nothing_lem : PostsAs does_nothing → ⊥
-  pub fills_first_lem : PostsAs fills_first → ⊥
-  pub against_total_lem : WithdrawsAs (withdrawn_by against_total) → ⊥
-  pub below_c_lem : WithdrawsAs (withdrawn_by below_c) → ⊥
-  pub zeros_left_out_lem : StandsAs zeros_left_out → ⊥
-  pub handed_at_twelve_lem : HandsAs handed_at_twelve → ⊥
+  pub does_nothing : PostsAs does_nothing → ⊥
+  pub fills_first : PostsAs fills_first → ⊥
+  pub against_total : WithdrawsAs (withdrawn_by against_total) → ⊥
+  pub below_c : WithdrawsAs (withdrawn_by below_c) → ⊥
+  pub zeros_left_out : StandsAs zeros_left_out → ⊥
+  pub handed_at_twelve : HandsAs handed_at_twelve → ⊥
   -- at p = 2 ^ 60, C = 256, block 39 would be empty; it is not
   pub product_in_a_word : let K = term_count bellard (2 ^ 60) in
       (word_bound K 256 40 - word_bound K 256 39 ≡ 0) × (bound K 256 40 - bound K 256 39 ≡ 0 → ⊥)

@@ -17,20 +17,20 @@ use Rattle.book.proofs.remove.Goals as goal
 
 pub bounds-sums-row : goal.bounds-sums-row
 bounds-sums-row c =
-    omega (arith, few_rows c.args.f, c.requires.row_in_lem)
+    omega (arith, few_rows c.args.f, c.requires.row_in)
 
 pub offset_bounds-sums-row : goal.offset_bounds-sums-row
 offset_bounds-sums-row c =
-    let small : c.args.row < 7 = (omega (arith, few_rows c.args.f, c.requires.row_in_lem)) in
+    let small : c.args.row < 7 = (omega (arith, few_rows c.args.f, c.requires.row_in)) in
     omega (arith, small)
 
 pub offset_bounds-sums-row-2 : goal.offset_bounds-sums-row-2
 offset_bounds-sums-row-2 c =
-    let small : c.args.row < 7 = (omega (arith, few_rows c.args.f, c.requires.row_in_lem)) in
+    let small : c.args.row < 7 = (omega (arith, few_rows c.args.f, c.requires.row_in)) in
     omega (arith, small)
 
 pub bounds-sums-row-2 : goal.bounds-sums-row-2
-bounds-sums-row-2 c = (omega (arith, few_rows c.args.f, c.requires.row_in_lem))
+bounds-sums-row-2 c = (omega (arith, few_rows c.args.f, c.requires.row_in))
 
 pub clear_bit-requires : goal.clear_bit-requires
 clear_bit-requires c =
@@ -43,10 +43,10 @@ unfolding AllBytes value_at
 returns c =
     let size : marks_at (limits_of (formula_of c.args.f)) ≤ length c.args.ledger.now = omega (arith, c.requires.sized) in
     let seven : length c.get-sums.result ≡ 7 = search rules in
-    let small : c.args.row < 7 = (omega (arith, few_rows c.args.f, c.requires.row_in_lem)) in
+    let small : c.args.row < 7 = (omega (arith, few_rows c.args.f, c.requires.row_in)) in
     let fits = c.sub.type_inv.1.1 in
     let bytes : AllBytes c.args.ledger.now = search rules in
-    removed _ c.args.ledger.now _ _ _ _ _ (value_at c.get-sums.result) _ size bytes c.requires.row_in_lem
+    removed _ c.args.ledger.now _ _ _ _ _ (value_at c.get-sums.result) _ size bytes c.requires.row_in
     c.get-sums.ensures
     (one_taken c.get-sums.result _ _ _ (omega (arith, small, seven)) (joined_lt _ _ fits.0.1 fits.1.0.1) c.sub.ensures)
     c.clear_bit.ensures c.put.ensures

@@ -16,20 +16,20 @@ use Rattle.ledger.proofs.enter.Goals as goal
 
 pub bounds-sums-row : goal.bounds-sums-row
 bounds-sums-row c =
-    omega (arith, few_rows c.args.f, c.requires.row_in_lem)
+    omega (arith, few_rows c.args.f, c.requires.row_in)
 
 pub offset_bounds-sums-row : goal.offset_bounds-sums-row
 offset_bounds-sums-row c =
-    let small : c.args.row < 7 = omega (arith, few_rows c.args.f, c.requires.row_in_lem) in
+    let small : c.args.row < 7 = omega (arith, few_rows c.args.f, c.requires.row_in) in
     omega (arith, small)
 
 pub offset_bounds-sums-row-2 : goal.offset_bounds-sums-row-2
 offset_bounds-sums-row-2 c =
-    let small : c.args.row < 7 = omega (arith, few_rows c.args.f, c.requires.row_in_lem) in
+    let small : c.args.row < 7 = omega (arith, few_rows c.args.f, c.requires.row_in) in
     omega (arith, small)
 
 pub bounds-sums-row-2 : goal.bounds-sums-row-2
-bounds-sums-row-2 c = omega (arith, few_rows c.args.f, c.requires.row_in_lem)
+bounds-sums-row-2 c = omega (arith, few_rows c.args.f, c.requires.row_in)
 
 pub set_bit-requires : goal.set_bit-requires
 set_bit-requires c =
@@ -41,8 +41,8 @@ unfolding AllBytes value_at
 returns c =
     let size : marks_at (limits_of (formula_of c.args.f)) ≤ length c.args.ledger.now = omega (arith, c.requires.sized) in
     let seven : length c.get-sums.result ≡ 7 = search rules in
-    let small : c.args.row < 7 = omega (arith, few_rows c.args.f, c.requires.row_in_lem) in
+    let small : c.args.row < 7 = omega (arith, few_rows c.args.f, c.requires.row_in) in
     let bytes : AllBytes c.args.ledger.now = search rules in
-    entered _ c.args.ledger.now _ _ _ _ _ (value_at c.get-sums.result) _ size bytes c.requires.row_in_lem
+    entered _ c.args.ledger.now _ _ _ _ _ (value_at c.get-sums.result) _ size bytes c.requires.row_in
     c.get-sums.ensures (one_added c.get-sums.result _ _ _ (omega (arith, small, seven)) c.add.ensures) c.set_bit.ensures
     c.put.ensures
