@@ -3,7 +3,6 @@
 use mathlib.Core.Path.{◌≡◌, sym}
 use Prim.Native.Nat.{◌<◌}
 use native.Mathlib.Omega.{arith}
-use borrow.Author.Tests.{not-true, not-false}
 use Rattle.algebra.proofs.Below.{below_none}
 use Rattle.series.specs.Names.{formula_of}
 use Rattle.series.specs.Series.{row_count}
@@ -29,7 +28,7 @@ pub returns-then-not-is_equal : goal.returns-then-not-is_equal
 unfolding value_at
 returns-then-not-is_equal c =
     other_sum (limits_of (formula_of c.args.f)) c.args.ledger.now c.args.book.now _ (omega arith) _ c.row_total.ensures _
-    (c.get-sums.ensures c.loop-row.row) _ c.is_equal.ensures (not-true _ c.if-not-is_equal.true-raw)
+    (c.get-sums.ensures c.loop-row.row) _ c.is_equal.ensures c.if-not-is_equal.true
 
 pub zero_elsewhere-requires : goal.zero_elsewhere-requires
 zero_elsewhere-requires c = (omega arith, omega arith, omega arith)
@@ -38,7 +37,7 @@ pub returns-then-not-zero_elsewhere : goal.returns-then-not-zero_elsewhere
 unfolding value_at
 returns-then-not-zero_elsewhere c =
     not_zeros (limits_of (formula_of c.args.f)) c.args.ledger.now c.args.book.now _ (omega arith) _ c.row_total.ensures _
-    (c.get-sums.ensures c.loop-row.row) _ c.is_equal.ensures _ c.zero_elsewhere.ensures (not-true _ c.if-not-zero_elsewhere.true-raw)
+    (c.get-sums.ensures c.loop-row.row) _ c.is_equal.ensures _ c.zero_elsewhere.ensures c.if-not-zero_elsewhere.true
 
 pub loop-row-preserved : goal.loop-row-preserved
 unfolding value_at
@@ -46,7 +45,7 @@ loop-row-preserved c = (
   omega arith,
   row_next (limits_of (formula_of c.args.f)) c.args.ledger.now c.args.book.now _ (omega arith) _ c.row_total.ensures _
       (c.get-sums.ensures c.loop-row.row) _ c.is_equal.ensures _ c.zero_elsewhere.ensures
-      (not-false _ c.if-not-is_equal.false-raw) (not-false _ c.if-not-zero_elsewhere.false-raw) c.loop-row.invariant.1,
+      c.if-not-is_equal.false c.if-not-zero_elsewhere.false c.loop-row.invariant.1,
 )
 
 pub returns : goal.returns

@@ -2,7 +2,6 @@
 -- Assumes nothing.
 use mathlib.Core.Path.{sym, ap, ◌∙◌}
 use native.Mathlib.Omega.{arith}
-use borrow.Author.Tests.{not-true, not-false}
 use lib.IntN.{pos}
 use Rattle.run.specs.Run.{limits_of}
 use Rattle.series.specs.Names.{formula_of}
@@ -19,31 +18,31 @@ returns-then-digits-ne32 c = digits_size _ _ _ c.if-digits-ne32.true
 pub returns-then-not-in_order : goal.returns-then-not-in_order
 returns-then-not-in_order c =
     out_of_order _ _ _ (c.if-ledger-ledger_size.false ∙ c.ledger_size.ensures) c.if-digits-ne32.false
-    (sym c.in_order.ensures ∙ not-true _ c.if-not-in_order.true-raw)
+    (sym c.in_order.ensures ∙ c.if-not-in_order.true)
 
 pub all_below-requires : goal.all_below-requires
 all_below-requires c =
     let sized = c.if-ledger-ledger_size.false ∙ c.ledger_size.ensures in
-    (sized, blocks_read _ c.args.ledger.now _ (sym c.in_order.ensures ∙ not-false _ c.if-not-in_order.false-raw) c.get-c.ensures)
+    (sized, blocks_read _ c.args.ledger.now _ (sym c.in_order.ensures ∙ c.if-not-in_order.false) c.get-c.ensures)
 
 pub returns-then-not-all_below : goal.returns-then-not-all_below
 returns-then-not-all_below c =
     unmarked _ _ _ (c.if-ledger-ledger_size.false ∙ c.ledger_size.ensures) c.if-digits-ne32.false
-    (sym c.in_order.ensures ∙ not-false _ c.if-not-in_order.false-raw)
-    (sym (full_read (formula_of c.args.f) _ _ _ c.get-c.ensures c.all_below.ensures) ∙ not-true _ c.if-not-all_below.true-raw)
+    (sym c.in_order.ensures ∙ c.if-not-in_order.false)
+    (sym (full_read (formula_of c.args.f) _ _ _ c.get-c.ensures c.all_below.ensures) ∙ c.if-not-all_below.true)
 
 pub settle-d-requires : goal.settle-d-requires
 settle-d-requires c =
     record {
       sized = c.if-ledger-ledger_size.false ∙ c.ledger_size.ensures;
-      ordered = sym c.in_order.ensures ∙ not-false _ c.if-not-in_order.false-raw;
+      ordered = sym c.in_order.ensures ∙ c.if-not-in_order.false;
     }
 
 pub returns-then-d-eq0 : goal.returns-then-d-eq0
 returns-then-d-eq0 c =
     unsettled _ _ _ (c.if-ledger-ledger_size.false ∙ c.ledger_size.ensures) c.if-digits-ne32.false
-    (sym c.in_order.ensures ∙ not-false _ c.if-not-in_order.false-raw)
-    (sym (full_read (formula_of c.args.f) _ _ _ c.get-c.ensures c.all_below.ensures) ∙ not-false _ c.if-not-all_below.false-raw)
+    (sym c.in_order.ensures ∙ c.if-not-in_order.false)
+    (sym (full_read (formula_of c.args.f) _ _ _ c.get-c.ensures c.all_below.ensures) ∙ c.if-not-all_below.false)
     (sym c.settle-d.ensures ∙ c.if-d-eq0.true)
 
 pub overflow_cast-result : goal.overflow_cast-result
@@ -56,6 +55,6 @@ pub returns : goal.returns
 returns c =
     ap pos c.settle-d.ensures
     ∙ closes _ _ _ (c.if-ledger-ledger_size.false ∙ c.ledger_size.ensures) c.if-digits-ne32.false
-    (sym c.in_order.ensures ∙ not-false _ c.if-not-in_order.false-raw)
-    (sym (full_read (formula_of c.args.f) _ _ _ c.get-c.ensures c.all_below.ensures) ∙ not-false _ c.if-not-all_below.false-raw)
+    (sym c.in_order.ensures ∙ c.if-not-in_order.false)
+    (sym (full_read (formula_of c.args.f) _ _ _ c.get-c.ensures c.all_below.ensures) ∙ c.if-not-all_below.false)
     (λ z. c.if-d-eq0.false (c.settle-d.ensures ∙ z))

@@ -4,7 +4,7 @@ use mathlib.Core.Path.{◌≡◌, refl, sym, ◌∙◌}
 use mathlib.Core.Bool.{Bool, true, false, not, ◌||◌}
 use mathlib.Core.List.{List}
 use Prim.Native.Nat.{ℕ}
-use borrow.Author.Tests.{eq-eqb, ne_eqb, not-true, not-false}
+use borrow.Author.Tests.{eq-eqb, ne_eqb}
 use borrow.Author.Rules.{rules}
 use lib.Dec.{ltb}
 use Rattle.algebra.specs.Test.{all_below}
@@ -30,18 +30,18 @@ module _ (lim : Limits) (s : List ℕ) (p C : ℕ) (ep : p ≡ field s 0 8) (eC 
 
 pub returns-then-not-in_range : goal.returns-then-not-in_range
 returns-then-not-in_range c =
-    no_run _ _ _ _ c.get-p.ensures c.get-c.ensures (sym c.in_range.ensures ∙ not-true _ c.if-not-in_range.true-raw)
+    no_run _ _ _ _ c.get-p.ensures c.get-c.ensures (sym c.in_range.ensures ∙ c.if-not-in_range.true)
 
 pub returns-then-get-ne0 : goal.returns-then-get-ne0
 returns-then-get-ne0 c =
     not_zero _ _ _ _ c.get-p.ensures c.get-c.ensures _
-    (sym c.in_range.ensures ∙ not-false _ c.if-not-in_range.false-raw) c.get.ensures c.if-get-ne0.true
+    (sym c.in_range.ensures ∙ c.if-not-in_range.false) c.get.ensures c.if-get-ne0.true
 
 pub none_from-requires : goal.none_from-requires
 none_from-requires c =
-    (search rules, (range_of _ _ _ (sym c.in_range.ensures ∙ not-false _ c.if-not-in_range.false-raw)).c_high)
+    (search rules, (range_of _ _ _ (sym c.in_range.ensures ∙ c.if-not-in_range.false)).c_high)
 
 pub returns : goal.returns
 returns c =
     by_rows _ _ _ _ c.get-p.ensures c.get-c.ensures _ _
-    (sym c.in_range.ensures ∙ not-false _ c.if-not-in_range.false-raw) c.get.ensures c.if-get-ne0.false c.none_from.ensures
+    (sym c.in_range.ensures ∙ c.if-not-in_range.false) c.get.ensures c.if-get-ne0.false c.none_from.ensures

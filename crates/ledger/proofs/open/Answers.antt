@@ -1,7 +1,6 @@
 -- `ledger::open` meets its contract: one law for each way out.
 -- Assumes nothing.
 use mathlib.Core.Path.{sym, ◌∙◌}
-use borrow.Author.Tests.{not-true, not-false}
 use Rattle.ledger.proofs.Opening.{wrong_size_lem, out_of_range, opened}
 use Rattle.ledger.proofs.open.Goals as goal
 
@@ -10,9 +9,9 @@ returns-then-ledger-ledger_size c = wrong_size_lem _ _ _ _ (λ e. c.if-ledger-le
 
 pub returns-then-not-in_range : goal.returns-then-not-in_range
 returns-then-not-in_range c =
-    out_of_range _ _ _ _ (c.if-ledger-ledger_size.false ∙ c.ledger_size.ensures) (sym c.in_range.ensures ∙ not-true _ c.if-not-in_range.true-raw)
+    out_of_range _ _ _ _ (c.if-ledger-ledger_size.false ∙ c.ledger_size.ensures) (sym c.in_range.ensures ∙ c.if-not-in_range.true)
 
 pub returns : goal.returns
 returns c =
-    opened _ _ _ _ (c.if-ledger-ledger_size.false ∙ c.ledger_size.ensures) (sym c.in_range.ensures ∙ not-false _ c.if-not-in_range.false-raw)
+    opened _ _ _ _ (c.if-ledger-ledger_size.false ∙ c.ledger_size.ensures) (sym c.in_range.ensures ∙ c.if-not-in_range.false)
     _ _ _ c.clear.ensures c.put.ensures c.put-2.ensures

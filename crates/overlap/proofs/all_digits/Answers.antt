@@ -6,7 +6,6 @@ use mathlib.Core.List.{List}
 use Prim.Native.Nat.{ℕ, ◌+◌, ◌≤◌, ◌<◌}
 use native.Mathlib.Numerals.{add-one}
 use native.Mathlib.Omega.{arith}
-use borrow.Author.Tests.{not-true, not-false}
 use lib.ListN.{length, get_or, drop, drop_of_length-le}
 use lib.Seq.{drop-cons}
 use Rattle.digits.specs.Digits.{is_digit}
@@ -31,11 +30,11 @@ loop-i-init c = (omega arith, refl)
 
 pub returns-then-not-is_digit : goal.returns-then-not-is_digit
 returns-then-not-is_digit c =
-    fails _ _ c.loop-i.invariant.1 (omega arith) (sym c.is_digit.ensures ∙ not-true _ c.if-not-is_digit.true-raw)
+    fails _ _ c.loop-i.invariant.1 (omega arith) (sym c.is_digit.ensures ∙ c.if-not-is_digit.true)
 
 pub loop-i-preserved : goal.loop-i-preserved
 loop-i-preserved c =
-    (omega arith, goes_on _ _ c.loop-i.invariant.1 (omega arith) (sym c.is_digit.ensures ∙ not-false _ c.if-not-is_digit.false-raw))
+    (omega arith, goes_on _ _ c.loop-i.invariant.1 (omega arith) (sym c.is_digit.ensures ∙ c.if-not-is_digit.false))
 
 pub returns : goal.returns
 returns c = all_passed _ _ c.loop-i.invariant.1 c.loop-i-test.false

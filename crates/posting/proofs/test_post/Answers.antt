@@ -3,7 +3,6 @@
 use mathlib.Core.Path.{sym, ◌∙◌}
 use native.Mathlib.Omega.{arith}
 use borrow.Author.Rules.{rules}
-use borrow.Author.Tests.{not-true, not-false}
 use Rattle.sheet.proofs.Form.{sheet_fits}
 use Rattle.ledger.proofs.Posting.{size_right, size_wrong}
 use Rattle.posting.proofs.Testing.{alone, ledger_size_lem, sheet_size, other_sheet, other_ledger, may_look, one_marked, admitted}
@@ -13,48 +12,48 @@ pub returns-then-ledger-ledger_size : goal.returns-then-ledger-ledger_size
 returns-then-ledger-ledger_size c = ledger_size_lem (alone _ _ _) (size_wrong _ _ (λ e. c.if-ledger-ledger_size.true (e ∙ sym c.ledger_size.ensures)))
 
 pub returns-then-not-sized : goal.returns-then-not-sized
-returns-then-not-sized c = sheet_size (alone _ _ _) _ c.sized.ensures (not-true _ c.if-not-sized.true-raw)
+returns-then-not-sized c = sheet_size (alone _ _ _) _ c.sized.ensures c.if-not-sized.true
 
 pub test_sheet-requires : goal.test_sheet-requires
-test_sheet-requires c = (sheet_fits _ _ (sym c.sized.ensures ∙ not-false _ c.if-not-sized.false-raw)).0
+test_sheet-requires c = (sheet_fits _ _ (sym c.sized.ensures ∙ c.if-not-sized.false)).0
 
 pub returns-in-Refused : goal.returns-in-Refused
 returns-in-Refused c =
-    other_sheet (alone _ _ _) _ c.sized.ensures (size_right _ _ (c.if-ledger-ledger_size.false ∙ c.ledger_size.ensures)) (not-false _ c.if-not-sized.false-raw) _
+    other_sheet (alone _ _ _) _ c.sized.ensures (size_right _ _ (c.if-ledger-ledger_size.false ∙ c.ledger_size.ensures)) c.if-not-sized.false _
     c.test_sheet.ensures _ c.in-Refused.is
 
 pub get-requires : goal.get-requires
 get-requires c =
-    (omega (arith, (sheet_fits _ _ (sym c.sized.ensures ∙ not-false _ c.if-not-sized.false-raw)).0), search rules)
+    (omega (arith, (sheet_fits _ _ (sym c.sized.ensures ∙ c.if-not-sized.false)).0), search rules)
 
 pub get-requires-2 : goal.get-requires-2
 get-requires-2 c =
-    (omega (arith, (sheet_fits _ _ (sym c.sized.ensures ∙ not-false _ c.if-not-sized.false-raw)).0), search rules)
+    (omega (arith, (sheet_fits _ _ (sym c.sized.ensures ∙ c.if-not-sized.false)).0), search rules)
 
 pub returns-in-Refused-test_ledger : goal.returns-in-Refused-test_ledger
 returns-in-Refused-test_ledger c =
-    other_ledger (alone _ _ _) _ c.sized.ensures (size_right _ _ (c.if-ledger-ledger_size.false ∙ c.ledger_size.ensures)) (not-false _ c.if-not-sized.false-raw) _
+    other_ledger (alone _ _ _) _ c.sized.ensures (size_right _ _ (c.if-ledger-ledger_size.false ∙ c.ledger_size.ensures)) c.if-not-sized.false _
     c.test_sheet.ensures _ c.in_default.is _ _ c.get.ensures c.get-2.ensures _ c.test_ledger.ensures _
     c.in-Refused-test_ledger.is
 
 pub count-requires : goal.count-requires
 count-requires c =
-    (sheet_fits _ _ (sym c.sized.ensures ∙ not-false _ c.if-not-sized.false-raw)).0
+    (sheet_fits _ _ (sym c.sized.ensures ∙ c.if-not-sized.false)).0
 
 pub none_marked-requires : goal.none_marked-requires
 none_marked-requires c =
-    may_look (alone _ _ _) _ c.sized.ensures (size_right _ _ (c.if-ledger-ledger_size.false ∙ c.ledger_size.ensures)) (not-false _ c.if-not-sized.false-raw) _
+    may_look (alone _ _ _) _ c.sized.ensures (size_right _ _ (c.if-ledger-ledger_size.false ∙ c.ledger_size.ensures)) c.if-not-sized.false _
     c.test_sheet.ensures _ c.in_default.is _ _ c.get.ensures c.get-2.ensures _ c.test_ledger.ensures _
     c.in_default-test_ledger.is _ c.count.ensures.0
 
 pub returns-then-not-none_marked : goal.returns-then-not-none_marked
 returns-then-not-none_marked c =
-    one_marked (alone _ _ _) _ c.sized.ensures (size_right _ _ (c.if-ledger-ledger_size.false ∙ c.ledger_size.ensures)) (not-false _ c.if-not-sized.false-raw) _
+    one_marked (alone _ _ _) _ c.sized.ensures (size_right _ _ (c.if-ledger-ledger_size.false ∙ c.ledger_size.ensures)) c.if-not-sized.false _
     c.test_sheet.ensures _ c.in_default.is _ _ c.get.ensures c.get-2.ensures _ c.test_ledger.ensures _
-    c.in_default-test_ledger.is _ c.count.ensures.0 _ c.none_marked.ensures (not-true _ c.if-not-none_marked.true-raw)
+    c.in_default-test_ledger.is _ c.count.ensures.0 _ c.none_marked.ensures c.if-not-none_marked.true
 
 pub returns : goal.returns
 returns c =
-    admitted (alone _ _ _) _ c.sized.ensures (size_right _ _ (c.if-ledger-ledger_size.false ∙ c.ledger_size.ensures)) (not-false _ c.if-not-sized.false-raw) _
+    admitted (alone _ _ _) _ c.sized.ensures (size_right _ _ (c.if-ledger-ledger_size.false ∙ c.ledger_size.ensures)) c.if-not-sized.false _
     c.test_sheet.ensures _ c.in_default.is _ _ c.get.ensures c.get-2.ensures _ c.test_ledger.ensures _
-    c.in_default-test_ledger.is _ c.count.ensures.0 _ c.none_marked.ensures (not-false _ c.if-not-none_marked.false-raw)
+    c.in_default-test_ledger.is _ c.count.ensures.0 _ c.none_marked.ensures c.if-not-none_marked.false

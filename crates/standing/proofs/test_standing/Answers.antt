@@ -1,7 +1,6 @@
 -- `standing::test_standing` meets its contract: one law for each way out.
 -- Assumes nothing.
 use native.Mathlib.Omega.{arith}
-use borrow.Author.Tests.{not-true, not-false}
 use Rattle.series.specs.Names.{formula_of}
 use Rattle.series.proofs.FewRows.{few_rows}
 use Rattle.run.specs.Run.{limits_of}
@@ -11,7 +10,7 @@ use Rattle.standing.proofs.Writing.{few_bits, other_size, no_room, not_in_order,
 use Rattle.standing.proofs.test_standing.Goals as goal
 
 pub returns-then-not-sized : goal.returns-then-not-sized
-returns-then-not-sized c = other_size _ _ _ _ _ c.sized.ensures (not-true _ c.if-not-sized.true-raw)
+returns-then-not-sized c = other_size _ _ _ _ _ c.sized.ensures c.if-not-sized.true
 
 pub count-requires : goal.count-requires
 count-requires c = (ledger_sized _ _ _ (right_size _ _ _ _ c.sized.ensures c.if-not-sized.false-raw), omega arith, omega arith)
@@ -41,8 +40,8 @@ in_order-requires c =
 
 pub returns-then-not-in_order : goal.returns-then-not-in_order
 returns-then-not-in_order c =
-    not_in_order _ _ _ _ _ c.sized.ensures _ c.count.ensures (not-false _ c.if-not-sized.false-raw) c.if-out-size.false _ c.in_order.ensures
-    (not-true _ c.if-not-in_order.true-raw)
+    not_in_order _ _ _ _ _ c.sized.ensures _ c.count.ensures c.if-not-sized.false c.if-out-size.false _ c.in_order.ensures
+    c.if-not-in_order.true
 
 pub overflow_cast-result : goal.overflow_cast-result
 overflow_cast-result c =
@@ -53,5 +52,5 @@ overflow_cast-result c =
 
 pub returns : goal.returns
 returns c =
-    accepted _ _ _ _ _ c.sized.ensures _ c.count.ensures (not-false _ c.if-not-sized.false-raw) c.if-out-size.false _ c.in_order.ensures
-    (not-false _ c.if-not-in_order.false-raw)
+    accepted _ _ _ _ _ c.sized.ensures _ c.count.ensures c.if-not-sized.false c.if-out-size.false _ c.in_order.ensures
+    c.if-not-in_order.false

@@ -4,7 +4,6 @@ use mathlib.Core.Path.{◌≡◌, refl, sym, ◌∙◌}
 use mathlib.Core.Bool.{Bool, true, false}
 use mathlib.Core.List.{List}
 use Prim.Native.Nat.{ℕ}
-use borrow.Author.Tests.{not-true, not-false}
 use Rattle.ticket.specs.Work.{is_sized, both_sized}
 use Rattle.ticket.proofs.both_sized.Goals as goal
 
@@ -17,8 +16,8 @@ unfolding both_sized
 second b out squarings e h = rw e h
 
 pub returns-then-not-sized : goal.returns-then-not-sized
-returns-then-not-sized c = first _ _ (sym c.sized.ensures ∙ not-true _ c.if-not-sized.true-raw)
+returns-then-not-sized c = first _ _ (sym c.sized.ensures ∙ c.if-not-sized.true)
 
 pub returns : goal.returns
 returns c =
-    second _ _ _ (sym c.sized.ensures ∙ not-false _ c.if-not-sized.false-raw) c.sized-2.ensures
+    second _ _ _ (sym c.sized.ensures ∙ c.if-not-sized.false) c.sized-2.ensures

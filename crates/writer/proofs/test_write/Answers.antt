@@ -2,45 +2,44 @@
 -- Assumes nothing.
 use mathlib.Core.Path.{sym, ◌∙◌}
 use native.Mathlib.Omega.{arith}
-use borrow.Author.Tests.{not-true, not-false}
 use Rattle.series.proofs.FewRows.{few_rows}
 use Rattle.sheet.proofs.Form.{list_fits}
 use Rattle.writer.proofs.WriteTests.{other_size, no_room, list_refused, accepted}
 use Rattle.writer.proofs.test_write.Goals as goal
 
 pub returns-then-not-sized : goal.returns-then-not-sized
-returns-then-not-sized c = other_size _ _ _ _ _ _ c.sized.ensures (not-true _ c.if-not-sized.true-raw)
+returns-then-not-sized c = other_size _ _ _ _ _ _ c.sized.ensures c.if-not-sized.true
 
 pub overflow_mul-size : goal.overflow_mul-size
 overflow_mul-size c =
     let few = few_rows c.args.f in
-    let h = (list_fits _ _ (sym c.sized.ensures ∙ not-false _ c.if-not-sized.false-raw)).1 in
+    let h = (list_fits _ _ (sym c.sized.ensures ∙ c.if-not-sized.false)).1 in
     omega (arith, few, h)
 
 pub overflow_add-size : goal.overflow_add-size
 overflow_add-size c =
     let few = few_rows c.args.f in
-    let h = (list_fits _ _ (sym c.sized.ensures ∙ not-false _ c.if-not-sized.false-raw)).1 in
+    let h = (list_fits _ _ (sym c.sized.ensures ∙ c.if-not-sized.false)).1 in
     omega (arith, few, h)
 
 pub returns-then-out-size : goal.returns-then-out-size
 returns-then-out-size c = no_room _ _ _ _ _ _ c.sized.ensures c.if-out-size.true
 
 pub test_list-requires : goal.test_list-requires
-test_list-requires c = sym c.sized.ensures ∙ not-false _ c.if-not-sized.false-raw
+test_list-requires c = sym c.sized.ensures ∙ c.if-not-sized.false
 
 pub overflow_cast-result : goal.overflow_cast-result
 overflow_cast-result c =
     let few = few_rows c.args.f in
-    let h = (list_fits _ _ (sym c.sized.ensures ∙ not-false _ c.if-not-sized.false-raw)).1 in
+    let h = (list_fits _ _ (sym c.sized.ensures ∙ c.if-not-sized.false)).1 in
     omega (arith, few, h)
 
 pub returns-in-Finished : goal.returns-in-Finished
 returns-in-Finished c =
-    accepted _ _ _ _ _ _ c.sized.ensures (not-false _ c.if-not-sized.false-raw) c.if-out-size.false _ c.test_list.ensures _
+    accepted _ _ _ _ _ _ c.sized.ensures c.if-not-sized.false c.if-out-size.false _ c.test_list.ensures _
     c.in-Finished.is
 
 pub returns-in-Refused : goal.returns-in-Refused
 returns-in-Refused c =
-    list_refused _ _ _ _ _ _ c.sized.ensures (not-false _ c.if-not-sized.false-raw) c.if-out-size.false _ c.test_list.ensures _
+    list_refused _ _ _ _ _ _ c.sized.ensures c.if-not-sized.false c.if-out-size.false _ c.test_list.ensures _
     c.in-Refused.is

@@ -3,7 +3,6 @@
 use mathlib.Core.Path.{◌≡◌}
 use Prim.Native.Nat.{◌+◌, ◌*◌, ◌/◌, ◌%◌}
 use native.Mathlib.Omega.{arith}
-use borrow.Author.Tests.{leb-true}
 use Rattle.series.proofs.FewRows.{few_rows}
 use Rattle.ledger.proofs.Counting.{at_most_one, no_block, one_block, eight_blocks}
 use Rattle.ledger.proofs.marks.count_row.Goals as goal
@@ -33,7 +32,7 @@ loop-block-preserved-then-block-end c =
     let few = c.ones-marks.ensures.few in
     let whole : c.loop-block.block % 8 ≡ 0 = omega arith in
     let at = c.start.result + 32 * c.args.row + c.loop-block.block / 8 in
-    (omega arith, leb-true (c.loop-block.block + 8) c.args.end c.if-block-end.true-raw, omega (arith, few), eight_blocks _ _ _ _ _ at _ _ c.loop-block.invariant.0 whole (omega (arith, c.start.ensures)) c.loop-block.invariant.3 c.ones-marks.ensures.counts)
+    (omega arith, c.if-block-end.true, omega (arith, few), eight_blocks _ _ _ _ _ at _ _ c.loop-block.invariant.0 whole (omega (arith, c.start.ensures)) c.loop-block.invariant.3 c.ones-marks.ensures.counts)
 
 pub overflow_add-marks-else-block-eq0 : goal.overflow_add-marks-else-block-eq0
 overflow_add-marks-else-block-eq0 c = let few = at_most_one c.bit_set.result in record { fits = omega (arith, few) }

@@ -32,7 +32,7 @@ plain_quotient-requires c =
 
 pub quotient_of_power-requires : goal.quotient_of_power-requires
 quotient_of_power-requires c =
-    (c.requires.odd c.args.k, c.requires.small c.args.k (before-next c.args.k), c.if-e-lt128.false)
+    (c.requires.odd c.args.k, c.requires.small c.args.k (before-next c.args.k), omega arith)
 
 pub returns-then-e-lt128 : goal.returns-then-e-lt128
 returns-then-e-lt128 c F p r e =

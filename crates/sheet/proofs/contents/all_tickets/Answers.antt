@@ -5,7 +5,6 @@ use mathlib.Core.Bool.{Bool, true, false}
 use mathlib.Core.List.{List}
 use Prim.Native.Nat.{ℕ, ◌+◌, ◌<◌}
 use native.Mathlib.Omega.{arith}
-use borrow.Author.Tests.{not-true, not-false}
 use Rattle.algebra.specs.Test.{all_below}
 use Rattle.algebra.proofs.Below.{below_none, below_next, below_false}
 use Rattle.run.specs.Run.{Limits, is_ticket}
@@ -31,13 +30,13 @@ loop-i-init c = (omega arith, below_none _)
 pub returns-then-not-is_ticket : goal.returns-then-not-is_ticket
 returns-then-not-is_ticket c =
     fails _ _ _ _ _ _ _ c.is_ticket.ensures c.row.ensures.0 c.block.ensures.0 _
-    c.loop-i-test.true (not-true _ c.if-not-is_ticket.true-raw)
+    c.loop-i-test.true c.if-not-is_ticket.true
 
 pub loop-i-preserved : goal.loop-i-preserved
 loop-i-preserved c = (
   omega arith,
   next _ _ _ _ _ _ _ c.is_ticket.ensures c.row.ensures.0 c.block.ensures.0
-      (not-false _ c.if-not-is_ticket.false-raw) c.loop-i.invariant.1,
+      c.if-not-is_ticket.false c.loop-i.invariant.1,
 )
 
 pub returns : goal.returns

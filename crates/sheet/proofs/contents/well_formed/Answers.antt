@@ -1,6 +1,5 @@
 -- `sheet::contents::well_formed` meets its contract: one law for each way out.
 -- Assumes nothing.
-use borrow.Author.Tests.{not-true, not-false}
 use Rattle.sheet.proofs.Form.{other_length, head_not_zero, entry_not_zero, by_contents}
 use Rattle.sheet.proofs.contents.well_formed.Goals as goal
 
@@ -14,9 +13,9 @@ returns-then-get-ne0 c =
 pub returns-then-not-zero_bytes : goal.returns-then-not-zero_bytes
 returns-then-not-zero_bytes c =
     entry_not_zero _ _ c.count-e.ensures.0 c.if-s-e.false _ c.get.ensures c.if-get-ne0.false
-    _ c.zero_bytes.ensures (not-true _ c.if-not-zero_bytes.true-raw)
+    _ c.zero_bytes.ensures c.if-not-zero_bytes.true
 
 pub returns : goal.returns
 returns c =
     by_contents _ _ c.count-e.ensures.0 c.if-s-e.false _ c.get.ensures c.if-get-ne0.false
-    _ c.zero_bytes.ensures (not-false _ c.if-not-zero_bytes.false-raw) _ c.ascending.ensures
+    _ c.zero_bytes.ensures c.if-not-zero_bytes.false _ c.ascending.ensures

@@ -3,7 +3,6 @@
 use mathlib.Core.Path.{◌≡◌, sym, ◌∙◌}
 use Prim.Native.Nat.{◌+◌, ◌*◌}
 use native.Mathlib.Omega.{arith}
-use borrow.Author.Tests.{not-true, not-false}
 use Rattle.algebra.proofs.Below.{below_none, below_next, below_false}
 use Rattle.sheet.proofs.Each.{tickets_listed}
 use Rattle.sheet.proofs.lists.all_tickets.Goals as goal
@@ -20,11 +19,11 @@ overflow_cast-list-in-loop-i c = omega (arith, c.type_inv.list (2 * c.loop-i.i))
 pub returns-then-not-is_ticket : goal.returns-then-not-is_ticket
 returns-then-not-is_ticket c = λ p.
     sym (tickets_listed _ p _ _ _ c.requires _
-    ∙ below_false _ _ _ c.loop-i-test.true (sym c.is_ticket.ensures ∙ not-true _ c.if-not-is_ticket.true-raw))
+    ∙ below_false _ _ _ c.loop-i-test.true (sym c.is_ticket.ensures ∙ c.if-not-is_ticket.true))
 
 pub loop-i-preserved : goal.loop-i-preserved
 loop-i-preserved c =
-    (omega arith, below_next _ _ c.loop-i.invariant.1 (sym c.is_ticket.ensures ∙ not-false _ c.if-not-is_ticket.false-raw))
+    (omega arith, below_next _ _ c.loop-i.invariant.1 (sym c.is_ticket.ensures ∙ c.if-not-is_ticket.false))
 
 pub returns : goal.returns
 returns c = λ p.

@@ -1,16 +1,15 @@
 -- `sheet::reading::test_read` meets its contract: one law for each way out.
 -- Assumes nothing.
 use mathlib.Core.Path.{sym, ◌∙◌}
-use borrow.Author.Tests.{not-true, not-false}
 use Rattle.sheet.proofs.Form.{sheet_fits}
 use Rattle.sheet.proofs.ReadTests.{other_size, list_short, sums_short, read_refused, read_accepted}
 use Rattle.sheet.proofs.reading.test_read.Goals as goal
 
 pub returns-then-not-sized : goal.returns-then-not-sized
-returns-then-not-sized c = other_size _ _ _ _ _ c.sized.ensures (not-true _ c.if-not-sized.true-raw)
+returns-then-not-sized c = other_size _ _ _ _ _ c.sized.ensures c.if-not-sized.true
 
 pub count-e-requires : goal.count-e-requires
-count-e-requires c = (sheet_fits _ _ (sym c.sized.ensures ∙ not-false _ c.if-not-sized.false-raw)).0
+count-e-requires c = (sheet_fits _ _ (sym c.sized.ensures ∙ c.if-not-sized.false)).0
 
 pub returns-then-list-e : goal.returns-then-list-e
 returns-then-list-e c = list_short _ _ _ _ _ c.sized.ensures _ c.count-e.ensures.0 c.if-list-e.true
@@ -21,14 +20,14 @@ returns-then-sums-e c =
 
 pub test_sheet-requires : goal.test_sheet-requires
 test_sheet-requires c =
-    (sheet_fits _ _ (sym c.sized.ensures ∙ not-false _ c.if-not-sized.false-raw)).0
+    (sheet_fits _ _ (sym c.sized.ensures ∙ c.if-not-sized.false)).0
 
 pub returns-in-Finished : goal.returns-in-Finished
 returns-in-Finished c =
-    read_accepted _ _ _ _ _ c.sized.ensures _ c.count-e.ensures.0 (not-false _ c.if-not-sized.false-raw)
+    read_accepted _ _ _ _ _ c.sized.ensures _ c.count-e.ensures.0 c.if-not-sized.false
     c.if-list-e.false c.if-sums-e.false _ c.test_sheet.ensures _ c.in-Finished.is
 
 pub returns-in-Refused : goal.returns-in-Refused
 returns-in-Refused c =
-    read_refused _ _ _ _ _ c.sized.ensures _ c.count-e.ensures.0 (not-false _ c.if-not-sized.false-raw)
+    read_refused _ _ _ _ _ c.sized.ensures _ c.count-e.ensures.0 c.if-not-sized.false
     c.if-list-e.false c.if-sums-e.false _ c.test_sheet.ensures _ c.in-Refused.is
