@@ -36,6 +36,14 @@ counted f ledger s r C e m bytes taken er few eC ee em =
       few = few;
     }
 
+pub returns : goal.returns
+unfolding AllBytes blocks_in
+returns c =
+    let k = counted c.args.f c.args.ledger.now c.args.s.now _ _ _ _ (λ i. (c.type_inv.ledger i).fits) c.requires c.row_count.ensures.counts c.row_count.ensures.few
+    c.get-c.ensures c.count-e.ensures.0 c.count-marked.ensures in
+    let all = k.all in
+    omega (arith, all)
+
 pub get-c-requires : goal.get-c-requires
 get-c-requires c = let t = (is_taken _ _ _ c.requires).sized in (omega (arith, t), omega arith)
 
@@ -82,11 +90,3 @@ overflow_cast-result c =
     let wide = k.wide in
     let few = k.few in
     record { fits = omega (arith, all, wide, few) }
-
-pub returns : goal.returns
-unfolding AllBytes blocks_in
-returns c =
-    let k = counted c.args.f c.args.ledger.now c.args.s.now _ _ _ _ (λ i. (c.type_inv.ledger i).fits) c.requires c.row_count.ensures.counts c.row_count.ensures.few
-    c.get-c.ensures c.count-e.ensures.0 c.count-marked.ensures in
-    let all = k.all in
-    omega (arith, all)
