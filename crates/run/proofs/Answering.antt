@@ -9,12 +9,11 @@ use native.Mathlib.Omega.{arith}
 use borrow.Author.Tests.{ne_eqb}
 use lib.Dec.{eqb, lit<, lit≤}
 use lib.IntN.{pos, negsuc, neg_ℤ}
+use Rattle.std.specs.Prelude.{Err}
 use Rattle.run.specs.Refusal.{Test, last_number, ◌⇐◌, refusal, answer}
 use Rattle.run.specs.Answers.{number_of, answer_of}
 use Rattle.run.specs.declared.Refusal.{Refusal}
 use Rattle.run.specs.declared.Refusal.TheVariants.{WrongSize, OutOfRange, Malformed, NoTicket, OutOfOrder, OtherRun, Marked, Unmarked, Unsettled, BadString, Apart, Different, Unposted}
-use Rattle.run.specs.declared.Answer.{Answer}
-use Rattle.run.specs.declared.Answer.TheVariants.{Finished, Refused}
 
 -- where nothing is refused, the first test does not apply, nor does one after it
 pub passes : (n : ℕ) (b : Bool) (ts : List Test) → refusal ((suc n ⇐ b) ∷ ts) ≡ 0 → (b ≡ false) × (refusal ts ≡ 0)
@@ -97,14 +96,14 @@ refused_by_lem zero value n h e = absurd (below_zero n value h (sym e))
 refused_by_lem (suc m) value zero h e = omega arith
 refused_by_lem (suc m) value (suc n) h e = let q : m ≡ n = cc in ap suc q
 
-pub was_finished : (a : Answer) (v number value : ℕ) → a ≡ Finished v → answer_of a ≡ answer number value → (number ≡ 0) × (v ≡ value)
-was_finished a v number value f e =
-    let n = not_refused number value v (sym e ∙ ap answer_of f) in
+pub was_finished : (v number value : ℕ) → pos v ≡ answer number value → (number ≡ 0) × (v ≡ value)
+was_finished v number value e =
+    let n = not_refused number value v (sym e) in
     (n.0, sym n.1)
 
 -- a refusal has some number, whatever the call's value
-pub was_number : (a : Answer) (r : Refusal) (number value : ℕ) → a ≡ Refused r → answer_of a ≡ answer number value
-    → (n : ℕ) × (number ≡ suc n) × (negsuc n ≡ answer_of (Refused r))
+pub was_number : (r : Refusal) (number value : ℕ) → answer_of (Err r) ≡ answer number value
+    → (n : ℕ) × (number ≡ suc n) × (negsuc n ≡ answer_of (Err r))
 unfolding answer
-was_number a r zero value f e = absurd (below_zero (number_of r) value (in_table r).0 (sym (ap answer_of f) ∙ e))
-was_number a r (suc n) value f e = (n, refl, sym e ∙ ap answer_of f)
+was_number r zero value e = absurd (below_zero (number_of r) value (in_table r).0 e)
+was_number r (suc n) value e = (n, refl, sym e)

@@ -12,10 +12,9 @@ use lib.ListN.{get_or}
 use Rattle.algebra.proofs.Booleans.{and_left, and_right}
 use Rattle.run.specs.Refusal.{Test, last_number, refusal, ascend_above, up_to, Smallest}
 use Rattle.run.specs.Call.{Slice, Call, refused_by, answered, each_was, each_becomes, each_left, all_left, bytes_left, Does, WorkedOrRefused}
-use Rattle.run.specs.Answers.{answer_of}
+use Rattle.run.specs.Answers.{Answer, answer_of, Verdict, verdict_of}
 use Rattle.run.specs.declared.Refusal.{Refusal}
-use Rattle.run.specs.declared.Answer.{Answer}
-use Rattle.run.specs.declared.Answer.TheVariants.{Finished, Refused}
+use Rattle.std.specs.Prelude.{Ok, Err, ⊤}
 use Rattle.run.proofs.Answering.{refused, finished, negated, stays, changed, was_finished, was_number}
 use Rattle.run.proofs.Smallest.{smallest}
 
@@ -67,16 +66,26 @@ module _ (c : Call) where
 
   -- ---- by what a function that made the tests answered
 
-  module _ (a : Answer) (tested : answer_of a ≡ answered c) where
-    pub was_worked : (v : ℕ) → a ≡ Finished v → (refused_by c ≡ 0) × (v ≡ c.value)
-    unfolding answered
-    was_worked v f = was_finished a v (refused_by c) c.value f tested
+  refused_as : (r : Refusal) → answer_of (Err r) ≡ answered c → Does c (answer_of (Err r)) (each_was c.slices)
+  unfolding answered
+  refused_as r e = (e, (refuses _ (was_number r (refused_by c) c.value e).1).1)
 
-    pub works : (v : ℕ) → a ≡ Finished v → Does c (pos v) (each_becomes c.slices)
+  module _ (a : Answer) (tested : answer_of a ≡ answered c) where
+    pub was_worked : (v : ℕ) → a ≡ Ok v → (refused_by c ≡ 0) × (v ≡ c.value)
+    unfolding answered
+    was_worked v f = was_finished v (refused_by c) c.value (sym (ap answer_of f) ∙ tested)
+
+    pub works : (v : ℕ) → a ≡ Ok v → Does c (pos v) (each_becomes c.slices)
     works v f = (sym (ap answer_of f) ∙ tested, (finishes (was_worked v f).0).1)
 
-    pub turned_down : (r : Refusal) → a ≡ Refused r → Does c (answer_of (Refused r)) (each_was c.slices)
+    pub turned_down : (r : Refusal) → a ≡ Err r → Does c (answer_of (Err r)) (each_was c.slices)
+    turned_down r f = refused_as r (sym (ap answer_of f) ∙ tested)
+
+  -- the same where they have no value
+  module _ (a : Verdict) (tested : verdict_of a ≡ answered c) where
+    pub was_passed : (v : ⊤) → a ≡ Ok v → refused_by c ≡ 0
     unfolding answered
-    turned_down r f =
-        let n = was_number a r (refused_by c) c.value f tested in
-        (sym (ap answer_of f) ∙ tested, (refuses n.0 n.1).1)
+    was_passed v f = (was_finished 0 (refused_by c) c.value (sym (ap verdict_of f) ∙ tested)).0
+
+    pub turned_back : (r : Refusal) → a ≡ Err r → Does c (answer_of (Err r)) (each_was c.slices)
+    turned_back r f = refused_as r (sym (ap verdict_of f) ∙ tested)

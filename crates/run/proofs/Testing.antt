@@ -14,10 +14,9 @@ use Rattle.run.specs.Refusal.{Test, ◌unless◌, refusal, ascend_above, tested}
 use Rattle.run.specs.Run.{Limits, in_range, is_ticket}
 use Rattle.run.specs.Tests.{of_ticket}
 use Rattle.run.specs.Call.{Call, refused_by, answered}
-use Rattle.run.specs.Answers.{answer_of}
+use Rattle.run.specs.Answers.{answer_of, Verdict, verdict_of}
 use Rattle.run.specs.declared.Refusal.{Refusal}
-use Rattle.run.specs.declared.Answer.{Answer}
-use Rattle.run.specs.declared.Answer.TheVariants.{Finished, Refused}
+use Rattle.std.specs.Prelude.{Ok, Err, ⊤}
 use Rattle.run.proofs.Answering.{passes, skipped, refused_first, was_finished, was_number, refused, finished}
 
 -- ---- tests that are passed
@@ -55,18 +54,18 @@ module _ {c : Call} {ts : List Test} where
   past {n} {b} left e = record { decide = left.decide ∙ skipped n (not b) ts (ap not e) }
 
 -- a part, by what a function answered that made its tests
-module _ (part : List Test) (a : Answer) (made : answer_of a ≡ tested part) where
-  pub part_passes : (v : ℕ) → a ≡ Finished v → refusal part ≡ 0
-  part_passes v f = (was_finished a v (refusal part) 0 f made).0
+module _ (part : List Test) (a : Verdict) (made : verdict_of a ≡ tested part) where
+  pub part_passes : (v : ⊤) → a ≡ Ok v → refusal part ≡ 0
+  part_passes v f = (was_finished 0 (refusal part) 0 (sym (ap verdict_of f) ∙ made)).0
 
   module _ (ts : List Test) {c : Call} (left : Left c (part ++ ts)) where
-    pub part_here : (r : Refusal) → a ≡ Refused r → answer_of (Refused r) ≡ answered c
+    pub part_here : (r : Refusal) → a ≡ Err r → answer_of (Err r) ≡ answered c
     unfolding answered
     part_here r f =
-        let n = was_number a r (refusal part) 0 f made in
+        let n = was_number r (refusal part) 0 (sym (ap verdict_of f) ∙ made) in
         sym n.2 ∙ refused (refused_by c) n.0 c.value (left.decide ∙ refused_first part ts n.0 n.1)
 
-    pub part_past : ascend_above 0 part ≡ true → (v : ℕ) → a ≡ Finished v → Left c ts
+    pub part_past : ascend_above 0 part ≡ true → (v : ⊤) → a ≡ Ok v → Left c ts
     part_past above v f = record { decide = left.decide ∙ part_passed part ts 0 above (part_passes v f) }
 
 -- none is left

@@ -7,54 +7,36 @@ ghost use Rattle.run.specs.Refusal.{tested};
 ghost use Rattle.run.specs.Run.{limits_of, in_range, is_ticket};
 ghost use Rattle.run.specs.Run as definition;
 ghost use Rattle.run.specs.Tests.{of_ticket};
-ghost use Rattle.run.specs.Answers.{number_of, answer_of};
+ghost use Rattle.run.specs.Answers.{number_of, verdict_of};
 
 use series::Series;
 
 // The refusals, in the order of their numbers: those of document 01 from 1 to 9, those of document 02 from 10 on.
 #[derive(Clone, Copy)]
 pub enum Refusal {
-    WrongSize,
-    OutOfRange,
-    Malformed,
-    NoTicket,
-    OutOfOrder,
-    OtherRun,
-    Marked,
-    Unmarked,
-    Unsettled,
-    BadString,
-    Apart,
-    Different,
-    Unposted,
+    WrongSize = 1,
+    OutOfRange = 2,
+    Malformed = 3,
+    NoTicket = 4,
+    OutOfOrder = 5,
+    OtherRun = 6,
+    Marked = 7,
+    Unmarked = 8,
+    Unsettled = 9,
+    BadString = 10,
+    Apart = 11,
+    Different = 12,
+    Unposted = 13,
 }
 
 // What a call answers: its value (0, or the length, e or d), or a refusal.
-#[derive(Clone, Copy)]
-pub enum Answer {
-    Finished(u32),
-    Refused(Refusal),
-}
+pub type Answer = Result<u32, Refusal>;
 
 // The number of a refusal in the table.
 pub fn number_of(r: Refusal) -> u64
     ensures { result ≡ number_of r }
 {
-    match r {
-        Refusal::WrongSize => 1,
-        Refusal::OutOfRange => 2,
-        Refusal::Malformed => 3,
-        Refusal::NoTicket => 4,
-        Refusal::OutOfOrder => 5,
-        Refusal::OtherRun => 6,
-        Refusal::Marked => 7,
-        Refusal::Unmarked => 8,
-        Refusal::Unsettled => 9,
-        Refusal::BadString => 10,
-        Refusal::Apart => 11,
-        Refusal::Different => 12,
-        Refusal::Unposted => 13,
-    }
+    r as u64
 }
 
 // The first term of block i, where c blocks share `count` terms: floor(i * count / c).
@@ -67,41 +49,40 @@ pub fn bound(count: u64, c: u64, i: u64) -> u64
 }
 
 // Whether p and c are those of a run.
+#[tactic(auto, unfolding(crate::specs::Run::in_range))]
 pub fn in_range(f: Series, p: u64, c: u64) -> bool
     ensures { result ≡ in_range (limits_of (formula_of f)) p c }
 {
-    if p < 1 {
-        return false;
-    }
-    if series::formula::last_position(f) < p {
-        return false;
-    }
-    if c < 1 {
-        return false;
-    }
-    c <= 256
+    1 <= p && p <= series::formula::last_position(f) && 1 <= c && c <= 256
 }
 
 // Whether the row and the block are those of a ticket, where there are c blocks.
+#[tactic(auto, unfolding(crate::specs::Run::is_ticket))]
 pub fn is_ticket(f: Series, c: u64, row: u64, block: u64) -> bool
     ensures { result ≡ is_ticket (limits_of (formula_of f)) c row block }
 {
-    if row < series::formula::row_count(f) as u64 {
-        block < c
-    } else {
-        false
-    }
+    row < series::formula::row_count(f) as u64 && block < c
+}
+
+// A ticket: the position and the number of blocks of its run, a row and a block.
+#[derive(Clone, Copy)]
+pub struct Ticket {
+    pub p: u64,
+    pub c: u64,
+    pub row: u64,
+    pub block: u64,
 }
 
 // What the refusal table says of a run and one of its tickets.
-pub fn test_ticket(f: Series, p: u64, c: u64, row: u64, block: u64) -> Answer
-    ensures { answer_of result ≡ tested (of_ticket (limits_of (formula_of f)) p c row block) }
+#[tactic(auto, unfolding(crate::specs::Refusal::refusal, crate::specs::Refusal::answer))]
+pub fn test_ticket(f: Series, t: Ticket) -> Result<(), Refusal>
+    ensures { verdict_of result ≡ tested (of_ticket (limits_of (formula_of f)) t.p t.c t.row t.block) }
 {
-    if !in_range(f, p, c) {
-        return Answer::Refused(Refusal::OutOfRange);
+    if !in_range(f, t.p, t.c) {
+        return Err(Refusal::OutOfRange);
     }
-    if !is_ticket(f, c, row, block) {
-        return Answer::Refused(Refusal::NoTicket);
+    if !is_ticket(f, t.c, t.row, t.block) {
+        return Err(Refusal::NoTicket);
     }
-    Answer::Finished(0)
+    Ok(())
 }
