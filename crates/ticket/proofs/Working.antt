@@ -1,38 +1,27 @@
 -- Working and quoting a part of a ticket: the tests that come first, and what the call answers and leaves then.
 -- Assumes nothing.
-use mathlib.Core.Path.{◌≡◌, refl, ap, ap₂, ◌∙◌}
-use mathlib.Core.Bool.{Bool, true, false}
+use mathlib.Core.Path.{◌≡◌, ap, ap₂, ◌∙◌}
+use mathlib.Core.Bool.{Bool, true}
 use mathlib.Core.List.{List, [], ◌∷◌, ◌++◌}
 use Prim.Native.Nat.{ℕ, ◌+◌}
 use borrow.Author.Tests.{eqb-true}
-use lib.IntN.{pos, negsuc}
+use lib.IntN.{pos}
 use lib.ListN.{length, take, drop}
 use Rattle.algebra.proofs.Booleans.{and_left, and_right}
 use Rattle.words.specs.Bytes.{bytes_of}
 use Rattle.words.proofs.Bytes.{over_all}
 use Rattle.series.specs.Series.{Formula}
-use Rattle.run.specs.Refusal.{refusal, answer, tested}
+use Rattle.run.specs.Refusal.{tested}
 use Rattle.run.specs.Run.{limits_of, in_range, is_ticket}
-use Rattle.run.specs.Tests.{of_ticket}
-use Rattle.run.specs.Answers.{answer_of}
+use Rattle.std.specs.Prelude.{Ok, Err, ⊤}
+use Rattle.run.specs.Answers.{answer_of, Verdict, verdict_of}
 use Rattle.run.specs.declared.Refusal.{Refusal}
-use Rattle.run.specs.declared.Answer.{Answer}
-use Rattle.run.specs.declared.Answer.TheVariants.{Finished, Refused}
 use Rattle.run.specs.Call.{refused_by, answered, Does}
 use Rattle.run.proofs.Testing.{passed, part_passes, ticket_passed}
-use Rattle.run.proofs.Calls.{works, turned_down}
+use Rattle.run.proofs.Calls.{finishes, was_passed, turned_back}
 use Rattle.ticket.specs.Parts.{part_sum, part_squarings}
 use Rattle.ticket.specs.declared.Part.{Part}
 use Rattle.ticket.specs.Work.{is_sized, both_sized, part_tests, work_call, quote_call}
-
-module _ (F : Formula) (p C row block : ℕ) (sized : Bool) where
-  pub wrong_size_lem : sized ≡ false → negsuc 0 ≡ tested (part_tests F p C row block sized)
-  unfolding part_tests refusal answer
-  wrong_size_lem s = rw s refl
-
-  pub by_ticket : sized ≡ true → tested (of_ticket (limits_of F) p C row block) ≡ tested (part_tests F p C row block sized)
-  unfolding part_tests refusal
-  by_ticket s = rw s refl
 
 -- a slice written over
 wrote : (x y : ℕ) (s s₁ : List ℕ) → length s ≡ 16 → x ≡ y → s₁ ≡ take 0 s ++ bytes_of 16 x ++ drop (0 + 16) s → s₁ ≡ bytes_of 16 y
@@ -45,11 +34,11 @@ has_size s e = eqb-true (length s) 16 e
 -- ---- working
 
 module _ (F : Formula) (p C row block : ℕ) (out squarings : List ℕ) (b : Bool) (s : b ≡ both_sized out squarings)
-    (a : Answer) (e : answer_of a ≡ tested (part_tests F p C row block b)) where
-  made : answer_of a ≡ tested (part_tests F p C row block (both_sized out squarings))
+    (a : Verdict) (e : verdict_of a ≡ tested (part_tests F p C row block b)) where
+  made : verdict_of a ≡ tested (part_tests F p C row block (both_sized out squarings))
   made = e ∙ ap (λ (sized : Bool). tested (part_tests F p C row block sized)) s
 
-  pub to_work : (v : ℕ) → a ≡ Finished v → (length out ≡ 16) × (length squarings ≡ 16)
+  pub to_work : (v : ⊤) → a ≡ Ok v → (length out ≡ 16) × (length squarings ≡ 16)
       × (in_range (limits_of F) p C ≡ true) × (is_ticket (limits_of F) C row block ≡ true)
   unfolding part_tests both_sized
   to_work v f =
@@ -59,32 +48,32 @@ module _ (F : Formula) (p C row block : ℕ) (out squarings : List ℕ) (b : Boo
 
   module _ (part : Part) where
     -- working is tested so, whatever the part
-    so_tested : answer_of a ≡ answered (work_call F part p C row block out squarings)
+    so_tested : verdict_of a ≡ answered (work_call F part p C row block out squarings)
     unfolding work_call refused_by answered
     so_tested = made
 
-    pub worked : (v : ℕ) → a ≡ Finished v → (x y : ℕ) (out₁ squarings₁ : List ℕ)
+    pub worked : (v : ⊤) → a ≡ Ok v → (x y : ℕ) (out₁ squarings₁ : List ℕ)
         → (x ≡ part_sum F part p C row block) × (y ≡ part_squarings F part p C row block)
         → out₁ ≡ take 0 out ++ bytes_of 16 x ++ drop (0 + 16) out → squarings₁ ≡ take 0 squarings ++ bytes_of 16 y ++ drop (0 + 16) squarings
-        → Does (work_call F part p C row block out squarings) (pos v) (out₁ ∷ squarings₁ ∷ [])
+        → Does (work_call F part p C row block out squarings) (pos 0) (out₁ ∷ squarings₁ ∷ [])
     unfolding work_call
     worked v f x y out₁ squarings₁ q w u =
         let l = to_work v f in
-        let d = works (work_call F part p C row block out squarings) a so_tested v f in
+        let d = finishes (work_call F part p C row block out squarings) (was_passed _ a so_tested v f) in
         (d.0, ap₂ (λ (s t : List ℕ). s ∷ t ∷ []) (wrote x _ out out₁ l.0 q.0 w) (wrote y _ squarings squarings₁ l.1 q.1 u) ∙ d.1)
 
-    pub not_worked : (n : Refusal) → a ≡ Refused n → Does (work_call F part p C row block out squarings) (answer_of (Refused n)) (out ∷ squarings ∷ [])
+    pub not_worked : (n : Refusal) → a ≡ Err n → Does (work_call F part p C row block out squarings) (answer_of (Err n)) (out ∷ squarings ∷ [])
     unfolding work_call
-    not_worked n f = turned_down (work_call F part p C row block out squarings) a so_tested n f
+    not_worked n f = turned_back (work_call F part p C row block out squarings) a so_tested n f
 
 -- ---- quoting
 
-module _ (F : Formula) (p C row block : ℕ) (out : List ℕ) (b : Bool) (s : b ≡ is_sized out) (a : Answer)
-    (e : answer_of a ≡ tested (part_tests F p C row block b)) where
-  asked : answer_of a ≡ tested (part_tests F p C row block (is_sized out))
+module _ (F : Formula) (p C row block : ℕ) (out : List ℕ) (b : Bool) (s : b ≡ is_sized out) (a : Verdict)
+    (e : verdict_of a ≡ tested (part_tests F p C row block b)) where
+  asked : verdict_of a ≡ tested (part_tests F p C row block (is_sized out))
   asked = e ∙ ap (λ (sized : Bool). tested (part_tests F p C row block sized)) s
 
-  pub to_quote : (v : ℕ) → a ≡ Finished v → (length out ≡ 16) × (in_range (limits_of F) p C ≡ true) × (is_ticket (limits_of F) C row block ≡ true)
+  pub to_quote : (v : ⊤) → a ≡ Ok v → (length out ≡ 16) × (in_range (limits_of F) p C ≡ true) × (is_ticket (limits_of F) C row block ≡ true)
   unfolding part_tests
   to_quote v f =
       let size = passed 0 _ _ (part_passes _ a asked v f) in
@@ -92,17 +81,17 @@ module _ (F : Formula) (p C row block : ℕ) (out : List ℕ) (b : Bool) (s : b 
       (has_size out size.0, t.0, t.1)
 
   module _ (part : Part) where
-    so_asked : answer_of a ≡ answered (quote_call F part p C row block out)
+    so_asked : verdict_of a ≡ answered (quote_call F part p C row block out)
     unfolding quote_call refused_by answered
     so_asked = asked
 
-    pub quoted : (v : ℕ) → a ≡ Finished v → (x : ℕ) (out₁ : List ℕ) → x ≡ part_squarings F part p C row block
-        → out₁ ≡ take 0 out ++ bytes_of 16 x ++ drop (0 + 16) out → Does (quote_call F part p C row block out) (pos v) (out₁ ∷ [])
+    pub quoted : (v : ⊤) → a ≡ Ok v → (x : ℕ) (out₁ : List ℕ) → x ≡ part_squarings F part p C row block
+        → out₁ ≡ take 0 out ++ bytes_of 16 x ++ drop (0 + 16) out → Does (quote_call F part p C row block out) (pos 0) (out₁ ∷ [])
     unfolding quote_call
     quoted v f x out₁ q w =
-        let d = works (quote_call F part p C row block out) a so_asked v f in
+        let d = finishes (quote_call F part p C row block out) (was_passed _ a so_asked v f) in
         (d.0, ap (λ (s : List ℕ). s ∷ []) (wrote x _ out out₁ (to_quote v f).0 q w) ∙ d.1)
 
-    pub not_quoted : (n : Refusal) → a ≡ Refused n → Does (quote_call F part p C row block out) (answer_of (Refused n)) (out ∷ [])
+    pub not_quoted : (n : Refusal) → a ≡ Err n → Does (quote_call F part p C row block out) (answer_of (Err n)) (out ∷ [])
     unfolding quote_call
-    not_quoted n f = turned_down (quote_call F part p C row block out) a so_asked n f
+    not_quoted n f = turned_back (quote_call F part p C row block out) a so_asked n f

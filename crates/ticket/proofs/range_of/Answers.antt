@@ -40,14 +40,14 @@ module _ (F : Formula) (part : Part) (p C block K first end : ℕ) (k : K ≡ te
   upper e = rw e (at_cut, at-end)
 
 pub term_count-count-requires : goal.term_count-count-requires
-term_count-count-requires c = position _ _ c.args.c c.requires.0
+term_count-count-requires c = position _ _ c.args.t.c c.requires.0
 
 pub bound-first-requires : goal.bound-first-requires
 bound-first-requires c =
     bounded c.args.f _ _ _ _ _ c.requires.0 c.requires.1 c.term_count-count.ensures (omega arith)
 
-pub overflow_add-block : goal.overflow_add-block
-overflow_add-block c = let w = range_of _ _ _ c.requires.0 in record { fits = omega (arith, c.requires.1, w.c_high) }
+pub overflow_add-t : goal.overflow_add-t
+overflow_add-t c = let w = range_of _ _ _ c.requires.0 in record { fits = omega (arith, c.requires.1, w.c_high) }
 
 pub bound-end-requires : goal.bound-end-requires
 bound-end-requires c =
