@@ -1,47 +1,29 @@
--- What is asked of a sheet and of a list: each part as the code tests it, and what is known where it is passed; and the same of all that the writer
--- asks.
+-- What is asked of a sheet, of a list and by the writer: what is known where it is passed.
 -- Assumes nothing.
 use mathlib.Core.Path.{◌≡◌, refl}
-use mathlib.Core.Bool.{Bool, true, false, ◌&&◌}
+use mathlib.Core.Bool.{true, ◌&&◌}
 use mathlib.Core.List.{List, [], ◌++◌}
-use Prim.Native.Nat.{ℕ, ◌+◌, ◌*◌, ◌%◌, ◌<◌, ◌≤◌, ◌/◌}
-use borrow.Author.Tests.{eqb-true, eq-eqb, ne_eqb, leb-true, le-leb, lt-leb}
+use Prim.Native.Nat.{ℕ, ◌+◌, ◌*◌, ◌%◌, ◌≤◌, ◌/◌}
+use borrow.Author.Tests.{eqb-true, eq-eqb, leb-true, le-leb}
 use lib.Dec.{eqb, leb}
-use lib.IntN.{pos, negsuc}
 use lib.ListN.{length, get_or}
 use Rattle.algebra.specs.Test.{all_below}
 use Rattle.algebra.proofs.Booleans.{and_left, and_right}
 use Rattle.words.specs.Bytes.{field}
 use Rattle.series.specs.Series.{Formula}
-use Rattle.run.specs.Refusal.{Test, refusal, answer, tested}
+use Rattle.run.specs.Refusal.{Test, refusal}
 use Rattle.run.specs.Run.{Limits, limits_of, in_range}
 use Rattle.run.specs.Call.{refused_by}
 use Rattle.run.proofs.Testing.{passed}
-use Rattle.sheet.specs.Sheet.{sheet_length, sheet_most, list_most, sheet_pos, sheet_blocks, sheet_count, entries_from, entries, all_tickets, ascending, well_formed, listed}
+use Rattle.sheet.specs.Sheet.{sheet_length, sheet_most, list_most, sheet_pos, sheet_blocks, sheet_count, entries, all_tickets, ascending, well_formed, listed}
 use Rattle.sheet.specs.Tests.{sheet_sized, of_sheet, list_sized, of_list}
 use Rattle.sheet.specs.Calls.{write_tests, write_call}
 
 -- ---- sizes
 
-pub sheet_short : (lim : Limits) (s : List ℕ) → length s < 16 → false ≡ sheet_sized lim s
-unfolding sheet_sized
-sheet_short lim s h = rw (lt-leb 16 (length s) h) refl
-
-pub sheet_most_lem : (lim : Limits) (s : List ℕ) (most : ℕ) → 16 ≤ length s → most ≡ sheet_most lim → leb (length s) most ≡ sheet_sized lim s
-unfolding sheet_sized
-sheet_most_lem lim s most h e = rw (le-leb 16 (length s) h, e) refl
-
 pub sheet_fits : (lim : Limits) (s : List ℕ) → sheet_sized lim s ≡ true → (16 ≤ length s) × (length s ≤ sheet_most lim)
 unfolding sheet_sized
 sheet_fits lim s e = (leb-true _ _ (and_left (leb 16 (length s)) _ e), leb-true _ _ (and_right (leb 16 (length s)) _ e))
-
-pub list_odd : (lim : Limits) (list : List ℕ) → (length list % 2 ≡ 0 → ⊥) → false ≡ list_sized lim list
-unfolding list_sized
-list_odd lim list h = rw (ne_eqb (length list % 2) 0 h) refl
-
-pub list_most_lem : (lim : Limits) (list : List ℕ) (most : ℕ) → length list % 2 ≡ 0 → most ≡ list_most lim → leb (length list) most ≡ list_sized lim list
-unfolding list_sized
-list_most_lem lim list most h e = rw (eq-eqb (length list % 2) 0 h, e) refl
 
 pub list_fits : (lim : Limits) (list : List ℕ) → list_sized lim list ≡ true → (length list % 2 ≡ 0) × (length list ≤ list_most lim)
 unfolding list_sized
@@ -57,66 +39,6 @@ formed s h = and_right
 pub formed_length : (s : List ℕ) → well_formed s ≡ true → length s ≡ 16 + 20 * sheet_count s
 unfolding well_formed
 formed_length s h = eqb-true _ _ (and_left _ (eqb (field s 12 4) 0) (and_left _ (all_below (sheet_count s) (λ i. eqb (get_or s (17 + 4 * i) 0) 0)) (and_left _ (ascending (entries s)) h)))
-
-module _ (s : List ℕ) (e : ℕ) (counted : e ≡ sheet_count s) where
-  pub other_length : (length s ≡ 16 + 20 * e → ⊥) → false ≡ well_formed s
-  unfolding well_formed
-  other_length h = rw (← counted, ne_eqb _ _ h) refl
-
-  module _ (h : length s ≡ 16 + 20 * e) (z : ℕ) (head : z ≡ field s 12 4) where
-    pub head_not_zero : (z ≡ 0 → ⊥) → false ≡ well_formed s
-    unfolding well_formed
-    head_not_zero n = rw (← counted, eq-eqb _ _ h, ← head, ne_eqb _ _ n) refl
-
-    module _ (n : z ≡ 0) (b : Bool) (zeros : b ≡ all_below e (λ i. eqb (get_or s (17 + 4 * i) 0) 0)) where
-      pub entry_not_zero : b ≡ false → false ≡ well_formed s
-      unfolding well_formed
-      entry_not_zero f = rw (← counted, eq-eqb _ _ h, ← head, eq-eqb _ _ n, ← zeros, f) refl
-
-      pub by_contents : b ≡ true → (r : Bool) → r ≡ ascending (entries_from s 0 e) → r ≡ well_formed s
-      unfolding well_formed entries
-      by_contents f r a = rw (← counted, eq-eqb _ _ h, ← head, eq-eqb _ _ n, ← zeros, f) a
-
--- ---- run, form and tickets, as the code tests them
-
-module _ (lim : Limits) (s : List ℕ) (p C : ℕ) (ep : p ≡ field s 0 8) (eC : C ≡ field s 8 2) where
-  pub out_of_range : in_range lim p C ≡ false → negsuc 1 ≡ tested (of_sheet lim s)
-  unfolding refusal answer sheet_pos sheet_blocks
-  out_of_range r = rw (← ep, ← eC, r) refl
-
-  module _ (r : in_range lim p C ≡ true) (b : Bool) (formed : b ≡ well_formed s) where
-    pub malformed : b ≡ false → negsuc 2 ≡ tested (of_sheet lim s)
-    unfolding refusal answer sheet_pos sheet_blocks
-    malformed f = rw (← ep, ← eC, r, ← formed, f) refl
-
-    module _ (f : b ≡ true) (e : ℕ) (counted : e ≡ sheet_count s) (t : Bool) (tickets : t ≡ all_tickets lim C (entries_from s 0 e)) where
-      pub no_ticket : t ≡ false → negsuc 3 ≡ tested (of_sheet lim s)
-      unfolding refusal answer sheet_pos sheet_blocks entries
-      no_ticket u = rw (← ep, ← eC, r, ← formed, f, ← counted, ← tickets, u) refl
-
-      pub accepted : t ≡ true → pos 0 ≡ tested (of_sheet lim s)
-      unfolding refusal answer sheet_pos sheet_blocks entries
-      accepted u = rw (← ep, ← eC, r, ← formed, f, ← counted, ← tickets, u) refl
-
--- the same of a list
-module _ (F : Formula) (p C : ℕ) (list : List ℕ) where
-  pub list_out_of_range : in_range (limits_of F) p C ≡ false → negsuc 1 ≡ tested (of_list F p C list)
-  unfolding refusal answer
-  list_out_of_range r = rw r refl
-
-  module _ (r : in_range (limits_of F) p C ≡ true) (b : Bool) (ascends : b ≡ ascending (listed F p C list)) where
-    pub list_malformed : b ≡ false → negsuc 2 ≡ tested (of_list F p C list)
-    unfolding refusal answer
-    list_malformed f = rw (r, ← ascends, f) refl
-
-    module _ (f : b ≡ true) (t : Bool) (tickets : t ≡ all_tickets (limits_of F) C (listed F p C list)) where
-      pub list_no_ticket : t ≡ false → negsuc 3 ≡ tested (of_list F p C list)
-      unfolding refusal answer
-      list_no_ticket u = rw (r, ← ascends, f, ← tickets, u) refl
-
-      pub list_accepted : t ≡ true → pos 0 ≡ tested (of_list F p C list)
-      unfolding refusal answer
-      list_accepted u = rw (r, ← ascends, f, ← tickets, u) refl
 
 -- ---- what is known where they are passed
 

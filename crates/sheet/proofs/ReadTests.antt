@@ -13,10 +13,9 @@ use Rattle.algebra.proofs.Booleans.{and_left, and_right, and_both, left_fails, r
 use Rattle.run.specs.Refusal.{tested}
 use Rattle.run.specs.Run.{Entry, Limits}
 use Rattle.run.specs.Tests.{of_sizes}
-use Rattle.run.specs.Answers.{answer_of}
+use Rattle.std.specs.Prelude.{Ok, Err, ⊤}
+use Rattle.run.specs.Answers.{Answer, answer_of, Verdict, verdict_of}
 use Rattle.run.specs.declared.Refusal.{Refusal}
-use Rattle.run.specs.declared.Answer.{Answer}
-use Rattle.run.specs.declared.Answer.TheVariants.{Finished, Refused}
 use Rattle.run.specs.Call.{Call, answered, refused_by, Does}
 use Rattle.run.proofs.Testing.{Left, here, past, none_left, part_here, part_past, passed}
 use Rattle.run.proofs.Calls.{was_worked, works, turned_down}
@@ -51,23 +50,23 @@ module _ (lim : Limits) (s list sums : List ℕ) where
       sums_short h =
           here all_tests (right_fails (sheet_sized lim s) _ (right_fails (leb (2 * sheet_count s) (length list)) _ (lt-leb _ _ (rw counted at h))))
 
-      module _ (t : b ≡ true) (room : 2 * e ≤ length list) (more : 16 * e ≤ length sums) (a : Answer) (made : answer_of a ≡ tested (of_sheet lim s)) where
+      module _ (t : b ≡ true) (room : 2 * e ≤ length list) (more : 16 * e ≤ length sums) (a : Verdict) (made : verdict_of a ≡ tested (of_sheet lim s)) where
         from_sheet : Left this (of_sheet lim s ++ [])
         from_sheet =
             past all_tests (and_both (sheet_sized lim s) _ (sym sized ∙ t)
             (and_both (leb (2 * sheet_count s) (length list)) _ (le-leb _ _ (rw counted at room)) (le-leb _ _ (rw counted at more))))
 
-        pub read_refused : (r : Refusal) → a ≡ Refused r → answer_of (Refused r) ≡ answered this
+        pub read_refused : (r : Refusal) → a ≡ Err r → answer_of (Err r) ≡ answered this
         read_refused = part_here _ a made [] from_sheet
 
-        pub read_accepted : (v : ℕ) → a ≡ Finished v → pos e ≡ answered this
+        pub read_accepted : (v : ⊤) → a ≡ Ok v → pos e ≡ answered this
         unfolding read_call
         read_accepted v f = ap pos counted ∙ none_left (part_past _ a made [] from_sheet refl v f)
 
   -- ---- after the tests, by what they answered
 
   module _ (a : Answer) (made : answer_of a ≡ answered this) where
-    module _ (v : ℕ) (f : a ≡ Finished v) where
+    module _ (v : ℕ) (f : a ≡ Ok v) where
       no_number : (refused_by this ≡ 0) × (v ≡ sheet_count s)
       unfolding read_call
       no_number = was_worked this a made v f
@@ -92,6 +91,6 @@ module _ (lim : Limits) (s list sums : List ℕ) where
           let d = works this a made v f in
           (d.0, ap₂ (λ (x y : List ℕ). x ∷ y ∷ []) (el ∙ ap (λ (ts : List Entry). over (list_of ts) list) all) (em ∙ ap (λ (ts : List Entry). over (bodies_of ts) sums) all) ∙ d.1)
 
-    pub not_read : (r : Refusal) → a ≡ Refused r → Does this (answer_of (Refused r)) (list ∷ sums ∷ [])
+    pub not_read : (r : Refusal) → a ≡ Err r → Does this (answer_of (Err r)) (list ∷ sums ∷ [])
     unfolding read_call
     not_read r f = turned_down this a made r f

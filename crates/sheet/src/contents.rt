@@ -6,12 +6,12 @@ ghost use Rattle.words.specs.Words.{joined};
 ghost use Rattle.series.specs.Names.{formula_of};
 ghost use Rattle.run.specs.Refusal.{tested};
 ghost use Rattle.run.specs.Run.{limits_of};
-ghost use Rattle.run.specs.Answers.{answer_of};
+ghost use Rattle.run.specs.Answers.{verdict_of};
 ghost use Rattle.sheet.specs.Sheet.{sheet_most, sheet_count, row_in, block_in, entries_from, all_tickets, well_formed};
 ghost use Rattle.sheet.specs.Tests.{sheet_sized, of_sheet};
 ghost use Rattle.sheet.specs.Sheet as definition;
 
-use run::{Answer, Refusal};
+use run::Refusal;
 use series::Series;
 use words::Wide;
 
@@ -23,13 +23,11 @@ pub fn sheet_most(f: Series) -> usize
 }
 
 // Whether a sheet has a size that a sheet can have.
+#[tactic(auto, unfolding(crate::specs::Tests::sheet_sized))]
 pub fn sized(f: Series, s: &[u8]) -> bool
     ensures { result ≡ sheet_sized (limits_of (formula_of f)) s.now }
 {
-    if s.len() < 16 {
-        return false;
-    }
-    s.len() <= sheet_most(f)
+    16 <= s.len() && s.len() <= sheet_most(f)
 }
 
 // How many tickets the head counts.
@@ -77,12 +75,10 @@ pub fn zero_bytes(s: &[u8], e: usize) -> bool
     requires { 16 + 4 * e ≤ length s.now }
     ensures { result ≡ all_below e (λ i. eqb (get_or s.now (17 + 4 * i) 0) 0) }
 {
-    let mut i = 0;
-    while i < e {
+    for i in 0..e {
         if s[17 + 4 * i] != 0 {
             return false;
         }
-        i += 1;
     }
     true
 }
@@ -92,32 +88,22 @@ pub fn ascending(s: &[u8], e: usize) -> bool
     requires { 16 + 4 * e ≤ length s.now }
     ensures { result ≡ definition.ascending (entries_from s.now 0 e) }
 {
-    let mut i = 0;
-    while i + 1 < e {
-        if key(s, i + 1) <= key(s, i) {
+    for i in 1..e {
+        if key(s, i) <= key(s, i - 1) {
             return false;
         }
-        i += 1;
     }
     true
 }
 
 // Whether a sheet has its length, its zero bytes, and ascending contents.
+#[tactic(auto, unfolding(crate::specs::Sheet::well_formed, crate::specs::Sheet::entries))]
 pub fn well_formed(s: &[u8]) -> bool
     requires { 16 ≤ length s.now }
     ensures { result ≡ well_formed s.now }
 {
     let e = count(s);
-    if s.len() != 16 + 20 * e {
-        return false;
-    }
-    if words::get(s, 12, 4) != 0 {
-        return false;
-    }
-    if !zero_bytes(s, e) {
-        return false;
-    }
-    ascending(s, e)
+    s.len() == 16 + 20 * e && words::get(s, 12, 4) == 0 && zero_bytes(s, e) && ascending(s, e)
 }
 
 // Whether e entries are tickets of a run with c blocks.
@@ -125,30 +111,29 @@ pub fn all_tickets(f: Series, s: &[u8], c: u64, e: usize) -> bool
     requires { 16 + 4 * e ≤ length s.now }
     ensures { result ≡ all_tickets (limits_of (formula_of f)) c (entries_from s.now 0 e) }
 {
-    let mut i = 0;
-    while i < e {
+    for i in 0..e {
         if !run::is_ticket(f, c, row(s, i), block(s, i)) {
             return false;
         }
-        i += 1;
     }
     true
 }
 
 // What the refusal table says of a sheet that has its size: its run, its form and its tickets.
-pub fn test_sheet(f: Series, s: &[u8]) -> Answer
+#[tactic(auto, unfolding(run::specs::Refusal::refusal, run::specs::Refusal::answer, crate::specs::Sheet::sheet_pos, crate::specs::Sheet::sheet_blocks, crate::specs::Sheet::entries))]
+pub fn test_sheet(f: Series, s: &[u8]) -> Result<(), Refusal>
     requires { 16 ≤ length s.now }
-    ensures { answer_of result ≡ tested (of_sheet (limits_of (formula_of f)) s.now) }
+    ensures { verdict_of result ≡ tested (of_sheet (limits_of (formula_of f)) s.now) }
 {
     let c = words::get(s, 8, 2);
     if !run::in_range(f, words::get(s, 0, 8), c) {
-        return Answer::Refused(Refusal::OutOfRange);
+        return Err(Refusal::OutOfRange);
     }
     if !well_formed(s) {
-        return Answer::Refused(Refusal::Malformed);
+        return Err(Refusal::Malformed);
     }
     if !all_tickets(f, s, c, count(s)) {
-        return Answer::Refused(Refusal::NoTicket);
+        return Err(Refusal::NoTicket);
     }
-    Answer::Finished(0)
+    Ok(())
 }

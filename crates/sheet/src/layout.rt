@@ -41,9 +41,7 @@ pub fn put_contents(list: &[u8], e: usize, out: &mut [u8])
     ensures { (F : Formula) (p C : ℕ) → out.new
         ≡ take 16 out.old ++ contents_of (listed F p C list.now) ++ drop (16 + 4 * e) out.old }
 {
-    let mut i = 0;
-    while i < e {
+    for i in 0..e {
         put_line(out, i, list[2 * i + 1] as u64, list[2 * i] as u64);
-        i += 1;
     }
 }

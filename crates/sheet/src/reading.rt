@@ -16,19 +16,17 @@ pub fn test_read(f: Series, s: &[u8], list: &[u8], sums: &[u8]) -> Answer
     ensures { answer_of result ≡ answered (read_call (limits_of (formula_of f)) s.now list.now sums.now) }
 {
     if !contents::sized(f, s) {
-        return Answer::Refused(Refusal::WrongSize);
+        return Err(Refusal::WrongSize);
     }
     let e = contents::count(s);
     if list.len() < 2 * e {
-        return Answer::Refused(Refusal::WrongSize);
+        return Err(Refusal::WrongSize);
     }
     if sums.len() < 16 * e {
-        return Answer::Refused(Refusal::WrongSize);
+        return Err(Refusal::WrongSize);
     }
-    match contents::test_sheet(f, s) {
-        Answer::Finished(_) => Answer::Finished(e as u32),
-        Answer::Refused(r) => Answer::Refused(r),
-    }
+    contents::test_sheet(f, s)?;
+    Ok(e as u32)
 }
 
 // Writes the list of the first e tickets.
@@ -36,10 +34,8 @@ pub fn put_list(s: &[u8], e: usize, list: &mut [u8])
     requires { (16 + 4 * e ≤ length s.now) × (2 * e ≤ length list.old) }
     ensures { list.new ≡ over (list_of (entries_from s.now 0 e)) list.old }
 {
-    let mut i = 0;
-    while i < e {
+    for i in 0..e {
         words::put(list, 2 * i, 2, contents::key(s, i));
-        i += 1;
     }
 }
 
@@ -48,10 +44,8 @@ pub fn put_sums(s: &[u8], e: usize, sums: &mut [u8])
     requires { (e ≡ sheet_count s.now) × (16 + 20 * e ≤ length s.now) × (16 * e ≤ length sums.old) }
     ensures { sums.new ≡ over (bodies_of (entries_from s.now 0 e)) sums.old }
 {
-    let mut i = 0;
-    while i < e {
+    for i in 0..e {
         words::put_wide(sums, 16 * i, contents::body(s, e, i));
-        i += 1;
     }
 }
 
@@ -60,12 +54,8 @@ pub fn read(f: Series, s: &[u8], list: &mut [u8], sums: &mut [u8]) -> Answer
     ensures { Does (read_call (limits_of (formula_of f)) s.now list.old sums.old) (answer_of result)
         (list.new ∷ sums.new ∷ []) }
 {
-    match test_read(f, s, list, sums) {
-        Answer::Finished(e) => {
-            put_list(s, e as usize, list);
-            put_sums(s, e as usize, sums);
-            Answer::Finished(e)
-        }
-        Answer::Refused(r) => Answer::Refused(r),
-    }
+    let e = test_read(f, s, list, sums)?;
+    put_list(s, e as usize, list);
+    put_sums(s, e as usize, sums);
+    Ok(e)
 }

@@ -16,10 +16,9 @@ use Rattle.series.specs.Series.{Formula}
 use Rattle.run.specs.Refusal.{tested}
 use Rattle.run.specs.Run.{Entry, limits_of}
 use Rattle.run.specs.Tests.{of_sizes}
-use Rattle.run.specs.Answers.{answer_of}
+use Rattle.std.specs.Prelude.{Ok, Err, ⊤}
+use Rattle.run.specs.Answers.{Answer, answer_of, Verdict, verdict_of}
 use Rattle.run.specs.declared.Refusal.{Refusal}
-use Rattle.run.specs.declared.Answer.{Answer}
-use Rattle.run.specs.declared.Answer.TheVariants.{Finished, Refused}
 use Rattle.run.specs.Call.{Call, answered, refused_by, Does}
 use Rattle.run.proofs.Testing.{Left, here, past, none_left, part_here, part_past}
 use Rattle.run.proofs.Calls.{was_worked, works, turned_down}
@@ -66,24 +65,24 @@ module _ (F : Formula) (p C : ℕ) (list out : List ℕ) where
     pub no_room : length out < 16 + 20 * (length list / 2) → negsuc 0 ≡ answered this
     no_room h = here all_tests (right_fails (list_sized (limits_of F) list) room (lt-leb _ _ h))
 
-    module _ (t : b ≡ true) (h : 16 + 20 * (length list / 2) ≤ length out) (a : Answer) (made : answer_of a ≡ tested (of_list F p C list)) where
+    module _ (t : b ≡ true) (h : 16 + 20 * (length list / 2) ≤ length out) (a : Verdict) (made : verdict_of a ≡ tested (of_list F p C list)) where
       from_list : Left this (of_list F p C list ++ [])
       from_list = past all_tests (and_both (list_sized (limits_of F) list) room (sym sized ∙ t) (le-leb _ _ h))
 
-      pub list_refused : (r : Refusal) → a ≡ Refused r → answer_of (Refused r) ≡ answered this
+      pub list_refused : (r : Refusal) → a ≡ Err r → answer_of (Err r) ≡ answered this
       list_refused = part_here _ a made [] from_list
 
-      pub accepted : (v : ℕ) → a ≡ Finished v → pos (16 + 20 * (length list / 2)) ≡ answered this
+      pub accepted : (v : ⊤) → a ≡ Ok v → pos (16 + 20 * (length list / 2)) ≡ answered this
       unfolding write_call
       accepted v f = none_left (part_past _ a made [] from_list refl v f)
 
   -- ---- after the tests, by what they answered
 
   module _ (a : Answer) (made : answer_of a ≡ answered this) where
-    pub none_applied : (v : ℕ) → a ≡ Finished v → Writable F p C list out
+    pub none_applied : (v : ℕ) → a ≡ Ok v → Writable F p C list out
     none_applied v f = writable F p C list out (was_worked this a made v f).0
 
-    pub written : (v : ℕ) (o₁ o₂ o₃ : List ℕ) → a ≡ Finished v
+    pub written : (v : ℕ) (o₁ o₂ o₃ : List ℕ) → a ≡ Ok v
         → o₁ ≡ bytes_of 8 p ++ bytes_of 2 C ++ bytes_of 2 (length list / 2) ++ bytes_of 4 0 ++ drop 16 out
         → o₂ ≡ take 16 o₁ ++ contents_of (listed F p C list) ++ drop (16 + 4 * (length list / 2)) o₁
         → o₃ ≡ take (16 + 4 * (length list / 2)) o₂ ++ bodies_of (listed F p C list) ++ drop (16 + 20 * (length list / 2)) o₂
@@ -93,6 +92,6 @@ module _ (F : Formula) (p C : ℕ) (list out : List ℕ) where
         let d = works this a made v f in
         (d.0, ap (λ (b : List ℕ). b ∷ []) (parts p C _ (listed F p C list) out o₁ o₂ o₃ (count_listed F p C list) e₁ e₂ e₃) ∙ d.1)
 
-    pub not_written : (r : Refusal) → a ≡ Refused r → Does this (answer_of (Refused r)) (out ∷ [])
+    pub not_written : (r : Refusal) → a ≡ Err r → Does this (answer_of (Err r)) (out ∷ [])
     unfolding write_call
     not_written r f = turned_down this a made r f

@@ -9,7 +9,7 @@ ghost use Rattle.run.specs.Call.{Does, answered};
 ghost use Rattle.sheet.specs.Sheet.{listed, all_tickets, bodies_of};
 ghost use Rattle.sheet.specs.Calls.{write_call};
 
-use run::{Answer, Refusal};
+use run::{Answer, Refusal, Ticket};
 use series::Series;
 use ticket::Part;
 
@@ -18,16 +18,14 @@ pub fn test_write(f: Series, p: u64, c: u64, list: &[u8], out: &[u8]) -> Answer
     ensures { answer_of result ≡ answered (write_call (formula_of f) p c list.now out.now) }
 {
     if !sheet::lists::sized(f, list) {
-        return Answer::Refused(Refusal::WrongSize);
+        return Err(Refusal::WrongSize);
     }
     let size = 16 + 20 * (list.len() / 2);
     if out.len() < size {
-        return Answer::Refused(Refusal::WrongSize);
+        return Err(Refusal::WrongSize);
     }
-    match sheet::lists::test_list(f, p, c, list) {
-        Answer::Finished(_) => Answer::Finished(size as u32),
-        Answer::Refused(r) => Answer::Refused(r),
-    }
+    sheet::lists::test_list(f, p, c, list)?;
+    Ok(size as u32)
 }
 
 // Works the tickets, and writes their sums. A sheet does not carry the squarings.
@@ -37,18 +35,15 @@ pub fn put_bodies(f: Series, p: u64, c: u64, list: &[u8], e: usize, out: &mut [u
     ensures { out.new
         ≡ take (16 + 4 * e) out.old ++ bodies_of (listed (formula_of f) p c list.now) ++ drop (16 + 20 * e) out.old }
 {
-    let mut i = 0;
-    while i < e {
-        let worked = ticket::sum(
-            f,
-            Part::Whole,
+    for i in 0..e {
+        let t = Ticket {
             p,
             c,
-            list[2 * i + 1] as u64,
-            list[2 * i] as u64,
-        );
+            row: list[2 * i + 1] as u64,
+            block: list[2 * i] as u64,
+        };
+        let worked = ticket::sum(f, Part::Whole, t);
         sheet::layout::put_body(out, e, i, worked.sum);
-        i += 1;
     }
 }
 
@@ -56,14 +51,10 @@ pub fn put_bodies(f: Series, p: u64, c: u64, list: &[u8], e: usize, out: &mut [u
 pub fn write(f: Series, p: u64, c: u64, list: &[u8], out: &mut [u8]) -> Answer
     ensures { Does (write_call (formula_of f) p c list.now out.old) (answer_of result) (out.new ∷ []) }
 {
-    match test_write(f, p, c, list, out) {
-        Answer::Finished(size) => {
-            let e = list.len() / 2;
-            sheet::layout::put_head(p, c, e as u64, out);
-            sheet::layout::put_contents(list, e, out);
-            put_bodies(f, p, c, list, e, out);
-            Answer::Finished(size)
-        }
-        Answer::Refused(r) => Answer::Refused(r),
-    }
+    let size = test_write(f, p, c, list, out)?;
+    let e = list.len() / 2;
+    sheet::layout::put_head(p, c, e as u64, out);
+    sheet::layout::put_contents(list, e, out);
+    put_bodies(f, p, c, list, e, out);
+    Ok(size)
 }

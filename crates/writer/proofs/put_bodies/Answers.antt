@@ -1,9 +1,7 @@
 -- `writer::put_bodies` meets its contract: after i turns the sums of i tickets stand over the output.
 -- Assumes nothing.
-use mathlib.Core.Path.{◌≡◌, refl, ◌∙◌}
-use Prim.Native.Nat.{◌+◌, ◌*◌}
+use mathlib.Core.Path.{◌≡◌, ◌∙◌}
 use native.Mathlib.Omega.{arith}
-use borrow.Author.Rules.{rules}
 use Rattle.series.specs.Names.{formula_of}
 use Rattle.ticket.proofs.Parts.{whole_sum}
 use Rattle.writer.proofs.put_bodies.Invariants.{first, ticket-at, next, last}
@@ -12,13 +10,7 @@ use Rattle.writer.proofs.put_bodies.Goals as goal
 pub loop-i-init : goal.loop-i-init
 loop-i-init c =
     let args = c.args in
-    (omega arith, refl, first (formula_of args.f) args.p args.c args.list.now args.out.now args.e)
-
-pub overflow_cast-list : goal.overflow_cast-list
-overflow_cast-list c = omega (arith, c.type_inv.list (2 * c.loop-i.i + 1))
-
-pub overflow_cast-list-in-loop-i : goal.overflow_cast-list-in-loop-i
-overflow_cast-list-in-loop-i c = omega (arith, c.type_inv.list (2 * c.loop-i.i))
+    first (formula_of args.f) args.p args.c args.list.now args.out.now args.e
 
 pub sum-worked-requires : goal.sum-worked-requires
 sum-worked-requires c =
@@ -30,18 +22,11 @@ put_body-requires c = (omega arith, omega arith)
 
 pub loop-i-preserved : goal.loop-i-preserved
 loop-i-preserved c =
-    let args = c.args in (
-      omega arith,
-      search rules,
-      next (formula_of args.f) args.p args.c args.list.now args.out.now args.e c.requires.0 _ _ _ _ c.requires.1
-          c.loop-i-test.true (c.sum-worked.ensures.0 ∙ whole_sum _ _ _ _ _) c.loop-i.invariant.2 c.put_body.ensures,
-    )
-
-pub shape_of-out : goal.shape_of-out
-shape_of-out c = c.loop-i.invariant.1
+    let args = c.args in next (formula_of args.f) args.p args.c args.list.now args.out.now args.e c.requires.0 _ _ _ _ c.requires.1
+    c.loop-i-test.true (c.sum-worked.ensures.0 ∙ whole_sum _ _ _ _ _) c.loop-i.invariant c.put_body.ensures
 
 pub returns : goal.returns
 returns c =
     let args = c.args in
     let e : c.loop-i.i ≡ args.e = omega arith in
-    last (formula_of args.f) args.p args.c args.list.now args.out.now args.e c.requires.0 _ _ e c.loop-i.invariant.2
+    last (formula_of args.f) args.p args.c args.list.now args.out.now args.e c.requires.0 _ _ e c.loop-i.invariant

@@ -3,7 +3,7 @@
 use mathlib.Core.Path.{◌≡◌, refl, sym, ap, ◌∙◌}
 use mathlib.Core.Bool.{true}
 use mathlib.Core.List.{List, ◌++◌}
-use Prim.Native.Nat.{ℕ, ◌+◌, ◌*◌, ◌≤◌, ◌<◌, ◌-◌}
+use Prim.Native.Nat.{ℕ, ◌+◌, ◌*◌, ◌≤◌, ◌<◌}
 use native.Mathlib.Omega.{arith}
 use lib.ListN.{length, take, drop}
 use Rattle.algebra.proofs.Below.{all_at}
@@ -40,7 +40,4 @@ module _ (F : Formula) (p C : ℕ) (list old : List ℕ) (e : ℕ) where
         ∙ ap (λ (n : ℕ). take (16 + 4 * e) old ++ bodies_of (listed F p C list) ++ drop n old) end
 
 abbrev pub invariant-loop-i : goal.invariant-loop-i
-invariant-loop-i l = (l.i ≤ l.e) × (length l.out ≡ length l.initial.out) × (l.out ≡ summed-to (formula_of l.f) l.p l.c l.list l.initial.out l.e l.i)
-
-abbrev pub decreases-loop-i : goal.decreases-loop-i
-decreases-loop-i l = l.e - l.i
+invariant-loop-i l = l.out ≡ summed-to (formula_of l.f) l.p l.c l.list l.initial.out l.e l.i

@@ -2,6 +2,7 @@
 -- Assumes nothing.
 use mathlib.Core.Path.{sym, ◌∙◌}
 use native.Mathlib.Omega.{arith}
+use Rattle.std.proofs.lemmas.Result.{err_from_is_err_and}
 use Rattle.series.proofs.FewRows.{few_rows}
 use Rattle.sheet.proofs.Form.{list_fits}
 use Rattle.writer.proofs.WriteTests.{other_size, no_room, list_refused, accepted}
@@ -34,12 +35,14 @@ overflow_cast-result c =
     let h = (list_fits _ _ (sym c.sized.ensures ∙ c.if-not-sized.false)).1 in
     omega (arith, few, h)
 
-pub returns-in-Finished : goal.returns-in-Finished
-returns-in-Finished c =
+pub returns : goal.returns
+returns c =
     accepted _ _ _ _ _ _ c.sized.ensures c.if-not-sized.false c.if-out-size.false _ c.test_list.ensures _
-    c.in-Finished.is
+    c.in_ok-test_list.was
 
-pub returns-in-Refused : goal.returns-in-Refused
-returns-in-Refused c =
+pub returns-in_err-test_list : goal.returns-in_err-test_list
+returns-in_err-test_list c =
+    let p = err_from_is_err_and c.from_residual.result c.from_residual.ensures.1 in
+    rw (p.1, p.2) (
     list_refused _ _ _ _ _ _ c.sized.ensures c.if-not-sized.false c.if-out-size.false _ c.test_list.ensures _
-    c.in-Refused.is
+    c.in_err-test_list.was)

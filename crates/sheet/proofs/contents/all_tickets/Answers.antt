@@ -25,7 +25,7 @@ module _ (lim : Limits) (C : ℕ) (s : List ℕ) (i row block : ℕ) (b : Bool) 
   next t h = below_next i (ticketAt lim C s) h (sym one ∙ t)
 
 pub loop-i-init : goal.loop-i-init
-loop-i-init c = (omega arith, below_none _)
+loop-i-init c = below_none _
 
 pub returns-then-not-is_ticket : goal.returns-then-not-is_ticket
 returns-then-not-is_ticket c =
@@ -33,13 +33,10 @@ returns-then-not-is_ticket c =
     c.loop-i-test.true c.if-not-is_ticket.true
 
 pub loop-i-preserved : goal.loop-i-preserved
-loop-i-preserved c = (
-  omega arith,
-  next _ _ _ _ _ _ _ c.is_ticket.ensures c.row.ensures.0 c.block.ensures.0
-      c.if-not-is_ticket.false c.loop-i.invariant.1,
-)
+loop-i-preserved c = next _ _ _ _ _ _ _ c.is_ticket.ensures c.row.ensures.0 c.block.ensures.0
+    c.if-not-is_ticket.false c.loop-i.invariant
 
 pub returns : goal.returns
 returns c =
     let e : c.loop-i.i ≡ c.args.e = omega arith in
-    sym (every_entries _ _ _ ∙ rw e at c.loop-i.invariant.1)
+    sym (every_entries _ _ _ ∙ rw e at c.loop-i.invariant)

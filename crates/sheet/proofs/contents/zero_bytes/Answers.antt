@@ -7,15 +7,15 @@ use Rattle.algebra.proofs.Below.{below_none, below_next, below_false}
 use Rattle.sheet.proofs.contents.zero_bytes.Goals as goal
 
 pub loop-i-init : goal.loop-i-init
-loop-i-init c = (omega arith, below_none _)
+loop-i-init c = below_none _
 
 pub returns-then-s-i-ne0 : goal.returns-then-s-i-ne0
 returns-then-s-i-ne0 c = sym (below_false _ _ _ c.loop-i-test.true (ne_eqb _ _ c.if-s-i-ne0.true))
 
 pub loop-i-preserved : goal.loop-i-preserved
-loop-i-preserved c = (omega arith, below_next _ _ c.loop-i.invariant.1 (eq-eqb _ _ c.if-s-i-ne0.false))
+loop-i-preserved c = below_next _ _ c.loop-i.invariant (eq-eqb _ _ c.if-s-i-ne0.false)
 
 pub returns : goal.returns
 returns c =
     let e : c.loop-i.i ≡ c.args.e = omega arith in
-    sym (rw e at c.loop-i.invariant.1)
+    sym (rw e at c.loop-i.invariant)

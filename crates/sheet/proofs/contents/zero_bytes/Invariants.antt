@@ -2,14 +2,11 @@
 -- Assumes nothing.
 use mathlib.Core.Path.{◌≡◌}
 use mathlib.Core.Bool.{true}
-use Prim.Native.Nat.{◌+◌, ◌*◌, ◌≤◌, ◌-◌}
+use Prim.Native.Nat.{◌+◌, ◌*◌}
 use lib.Dec.{eqb}
 use lib.ListN.{get_or}
 use Rattle.algebra.specs.Test.{all_below}
 use Rattle.sheet.proofs.contents.zero_bytes.Given as goal
 
 abbrev pub invariant-loop-i : goal.invariant-loop-i
-invariant-loop-i l = (l.i ≤ l.e) × (all_below l.i (λ j. eqb (get_or l.s (17 + 4 * j) 0) 0) ≡ true)
-
-abbrev pub decreases-loop-i : goal.decreases-loop-i
-decreases-loop-i l = l.e - l.i
+invariant-loop-i l = all_below l.i (λ j. eqb (get_or l.s (17 + 4 * j) 0) 0) ≡ true

@@ -4,7 +4,6 @@ use mathlib.Core.Path.{◌≡◌, refl, sym, ap, ◌∙◌}
 use mathlib.Core.List.{List, ◌++◌}
 use Prim.Native.Nat.{ℕ, ◌+◌, ◌*◌, ◌≤◌, ◌<◌}
 use native.Mathlib.Omega.{arith}
-use borrow.Author.Rules.{rules}
 use lib.ListN.{length, take, drop}
 use Rattle.series.specs.Series.{Formula}
 use Rattle.run.specs.Run.{Entry}
@@ -32,7 +31,7 @@ module _ (list old : List ℕ) (e : ℕ) (size : length list ≡ 2 * e) where
 
 pub loop-i-init : goal.loop-i-init
 loop-i-init c =
-    (omega arith, refl, first c.args.list.now c.args.out.now c.args.e c.requires.0)
+    first c.args.list.now c.args.out.now c.args.e c.requires.0
 
 pub overflow_cast-list : goal.overflow_cast-list
 overflow_cast-list c = omega (arith, c.type_inv.list (2 * c.loop-i.i + 1))
@@ -48,17 +47,10 @@ put_line-requires c =
     (row, omega (arith, block), omega arith)
 
 pub loop-i-preserved : goal.loop-i-preserved
-loop-i-preserved c = (
-  omega arith,
-  search rules,
-  next c.args.list.now c.args.out.now c.args.e c.requires.0 _ _ _ (omega arith) c.loop-i-test.true
-      c.loop-i.invariant.2 c.put_line.ensures,
-)
-
-pub shape_of-out : goal.shape_of-out
-shape_of-out c = c.loop-i.invariant.1
+loop-i-preserved c = next c.args.list.now c.args.out.now c.args.e c.requires.0 _ _ _ (omega arith) c.loop-i-test.true
+    c.loop-i.invariant c.put_line.ensures
 
 pub returns : goal.returns
 returns c =
     let e : c.loop-i.i ≡ c.args.e = omega arith in
-    last c.args.list.now c.args.out.now c.args.e c.requires.0 _ _ e c.loop-i.invariant.2
+    last c.args.list.now c.args.out.now c.args.e c.requires.0 _ _ e c.loop-i.invariant

@@ -2,8 +2,7 @@
 -- Assumes nothing.
 use mathlib.Core.Path.{◌≡◌}
 use mathlib.Core.List.{List}
-use Prim.Native.Nat.{ℕ, ◌≤◌, ◌-◌}
-use lib.ListN.{length}
+use Prim.Native.Nat.{ℕ}
 use Rattle.series.specs.Series.{Formula}
 use Rattle.sheet.specs.Sheet.{contents_of, listed}
 use Rattle.sheet.proofs.Over.{over_to}
@@ -14,7 +13,4 @@ abbrev pub Written : List ℕ → List ℕ → List ℕ → ℕ → Type 0
 Written list old out i = (F : Formula) (p C : ℕ) → out ≡ over_to contents_of 4 (listed F p C list) old 16 i
 
 abbrev pub invariant-loop-i : goal.invariant-loop-i
-invariant-loop-i l = (l.i ≤ l.e) × (length l.out ≡ length l.initial.out) × Written l.list l.initial.out l.out l.i
-
-abbrev pub decreases-loop-i : goal.decreases-loop-i
-decreases-loop-i l = l.e - l.i
+invariant-loop-i l = Written l.list l.initial.out l.out l.i

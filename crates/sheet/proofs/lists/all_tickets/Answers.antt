@@ -8,7 +8,7 @@ use Rattle.sheet.proofs.Each.{tickets_listed}
 use Rattle.sheet.proofs.lists.all_tickets.Goals as goal
 
 pub loop-i-init : goal.loop-i-init
-loop-i-init c = (omega arith, below_none _)
+loop-i-init c = below_none _
 
 pub overflow_cast-list : goal.overflow_cast-list
 overflow_cast-list c = omega (arith, c.type_inv.list (2 * c.loop-i.i + 1))
@@ -23,9 +23,9 @@ returns-then-not-is_ticket c = λ p.
 
 pub loop-i-preserved : goal.loop-i-preserved
 loop-i-preserved c =
-    (omega arith, below_next _ _ c.loop-i.invariant.1 (sym c.is_ticket.ensures ∙ c.if-not-is_ticket.false))
+    below_next _ _ c.loop-i.invariant (sym c.is_ticket.ensures ∙ c.if-not-is_ticket.false)
 
 pub returns : goal.returns
 returns c = λ p.
     let e : c.loop-i.i ≡ c.args.e = omega arith in
-    sym (tickets_listed _ p _ _ _ c.requires _ ∙ rw e at c.loop-i.invariant.1)
+    sym (tickets_listed _ p _ _ _ c.requires _ ∙ rw e at c.loop-i.invariant)

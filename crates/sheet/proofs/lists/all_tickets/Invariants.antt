@@ -3,7 +3,7 @@
 use mathlib.Core.Path.{◌≡◌}
 use mathlib.Core.Bool.{Bool, true}
 use mathlib.Core.List.{List}
-use Prim.Native.Nat.{ℕ, ◌≤◌, ◌-◌}
+use Prim.Native.Nat.{ℕ}
 use Rattle.algebra.specs.Test.{all_below}
 use Rattle.series.specs.Names.{formula_of}
 use Rattle.run.specs.Run.{Limits, limits_of, is_ticket}
@@ -14,7 +14,4 @@ abbrev pub ticketAt : Limits → ℕ → List ℕ → ℕ → Bool
 ticketAt lim C list i = is_ticket lim C (pair_row list i) (pair_block list i)
 
 abbrev pub invariant-loop-i : goal.invariant-loop-i
-invariant-loop-i l = (l.i ≤ l.e) × (all_below l.i (ticketAt (limits_of (formula_of l.f)) l.c l.list) ≡ true)
-
-abbrev pub decreases-loop-i : goal.decreases-loop-i
-decreases-loop-i l = l.e - l.i
+invariant-loop-i l = all_below l.i (ticketAt (limits_of (formula_of l.f)) l.c l.list) ≡ true

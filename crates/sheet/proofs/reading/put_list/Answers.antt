@@ -1,29 +1,21 @@
 -- `sheet::reading::put_list` meets its contract: after i turns the list of i tickets stands over the output.
 -- Assumes nothing.
-use mathlib.Core.Path.{◌≡◌, refl}
+use mathlib.Core.Path.{◌≡◌}
 use native.Mathlib.Omega.{arith}
-use borrow.Author.Rules.{rules}
 use Rattle.sheet.proofs.reading.put_list.Invariants.{first, last, next}
 use Rattle.sheet.proofs.reading.put_list.Goals as goal
 
 pub loop-i-init : goal.loop-i-init
 loop-i-init c =
     let args = c.args in
-    (omega arith, refl, first args.s.now args.list.now args.e)
+    first args.s.now args.list.now args.e
 
 pub loop-i-preserved : goal.loop-i-preserved
 loop-i-preserved c =
-    let args = c.args in (
-      omega arith,
-      search rules,
-      next args.s.now args.list.now args.e _ _ _ _ c.loop-i-test.true c.key.ensures c.loop-i.invariant.2 c.put.ensures,
-    )
-
-pub shape_of-list : goal.shape_of-list
-shape_of-list c = c.loop-i.invariant.1
+    let args = c.args in next args.s.now args.list.now args.e _ _ _ _ c.loop-i-test.true c.key.ensures c.loop-i.invariant c.put.ensures
 
 pub returns : goal.returns
 returns c =
     let args = c.args in
     let e : c.loop-i.i ≡ args.e = omega arith in
-    last args.s.now args.list.now args.e _ _ e c.loop-i.invariant.2
+    last args.s.now args.list.now args.e _ _ e c.loop-i.invariant

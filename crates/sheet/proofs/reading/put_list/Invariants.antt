@@ -2,10 +2,10 @@
 -- Assumes nothing.
 use mathlib.Core.Path.{◌≡◌, sym, ap, ◌∙◌}
 use mathlib.Core.List.{List, ◌++◌}
-use Prim.Native.Nat.{ℕ, ◌+◌, ◌*◌, ◌≤◌, ◌<◌, ◌-◌}
+use Prim.Native.Nat.{ℕ, ◌+◌, ◌*◌, ◌<◌}
 use native.Mathlib.Nat.{zero-add}
 use native.Mathlib.Omega.{arith}
-use lib.ListN.{length, take, drop}
+use lib.ListN.{take, drop}
 use Rattle.words.specs.Bytes.{bytes_of}
 use Rattle.sheet.specs.Sheet.{entries_from, key, list_of}
 use Rattle.sheet.specs.Calls.{over}
@@ -31,7 +31,4 @@ module _ (s old : List ℕ) (e : ℕ) where
   last l i q el = finish_front lists (entries_from s 0 e) old l i (count_entries s e 0 ∙ sym q) el
 
 abbrev pub invariant-loop-i : goal.invariant-loop-i
-invariant-loop-i l = (l.i ≤ l.e) × (length l.list ≡ length l.initial.list) × (l.list ≡ listed-to l.s l.initial.list l.e l.i)
-
-abbrev pub decreases-loop-i : goal.decreases-loop-i
-decreases-loop-i l = l.e - l.i
+invariant-loop-i l = l.list ≡ listed-to l.s l.initial.list l.e l.i

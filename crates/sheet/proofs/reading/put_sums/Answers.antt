@@ -1,32 +1,24 @@
 -- `sheet::reading::put_sums` meets its contract: after i turns the sums of i tickets stand over the output.
 -- Assumes nothing.
-use mathlib.Core.Path.{◌≡◌, refl}
+use mathlib.Core.Path.{◌≡◌}
 use native.Mathlib.Omega.{arith}
-use borrow.Author.Rules.{rules}
 use Rattle.sheet.proofs.reading.put_sums.Invariants.{first, last, next}
 use Rattle.sheet.proofs.reading.put_sums.Goals as goal
 
 pub loop-i-init : goal.loop-i-init
 loop-i-init c =
     let args = c.args in
-    (omega arith, refl, first args.s.now args.sums.now args.e)
+    first args.s.now args.sums.now args.e
 
 pub body-requires : goal.body-requires
 body-requires c = (omega arith, omega arith)
 
 pub loop-i-preserved : goal.loop-i-preserved
-loop-i-preserved c = (
-  omega arith,
-  search rules,
-  next c.args.s.now c.args.sums.now c.args.e _ _ _ _ c.requires.0 c.loop-i-test.true c.body.ensures
-      c.loop-i.invariant.2 c.put_wide.ensures,
-)
-
-pub shape_of-sums : goal.shape_of-sums
-shape_of-sums c = c.loop-i.invariant.1
+loop-i-preserved c = next c.args.s.now c.args.sums.now c.args.e _ _ _ _ c.requires.0 c.loop-i-test.true c.body.ensures
+    c.loop-i.invariant c.put_wide.ensures
 
 pub returns : goal.returns
 returns c =
     let args = c.args in
     let e : c.loop-i.i ≡ args.e = omega arith in
-    last args.s.now args.sums.now args.e _ _ e c.loop-i.invariant.2
+    last args.s.now args.sums.now args.e _ _ e c.loop-i.invariant

@@ -2,10 +2,10 @@
 -- Assumes nothing.
 use mathlib.Core.Path.{◌≡◌, sym, ap, ◌∙◌}
 use mathlib.Core.List.{List, ◌++◌}
-use Prim.Native.Nat.{ℕ, ◌+◌, ◌*◌, ◌≤◌, ◌<◌, ◌-◌}
+use Prim.Native.Nat.{ℕ, ◌+◌, ◌*◌, ◌<◌}
 use native.Mathlib.Nat.{zero-add}
 use native.Mathlib.Omega.{arith}
-use lib.ListN.{length, take, drop}
+use lib.ListN.{take, drop}
 use Rattle.words.specs.Bytes.{bytes_of, field}
 use Rattle.run.specs.Run.{Entry}
 use Rattle.sheet.specs.Sheet.{sheet_count, sum_in, entries_from, bodies_of}
@@ -34,7 +34,4 @@ module _ (s old : List ℕ) (e : ℕ) where
   last l i q el = finish_front bodies (entries_from s 0 e) old l i (count_entries s e 0 ∙ sym q) el
 
 abbrev pub invariant-loop-i : goal.invariant-loop-i
-invariant-loop-i l = (l.i ≤ l.e) × (length l.sums ≡ length l.initial.sums) × (l.sums ≡ summed-to l.s l.initial.sums l.e l.i)
-
-abbrev pub decreases-loop-i : goal.decreases-loop-i
-decreases-loop-i l = l.e - l.i
+invariant-loop-i l = l.sums ≡ summed-to l.s l.initial.sums l.e l.i

@@ -1,6 +1,7 @@
 -- `sheet::reading::test_read` meets its contract: one law for each way out.
 -- Assumes nothing.
 use mathlib.Core.Path.{sym, ◌∙◌}
+use Rattle.std.proofs.lemmas.Result.{err_from_is_err_and}
 use Rattle.sheet.proofs.Form.{sheet_fits}
 use Rattle.sheet.proofs.ReadTests.{other_size, list_short, sums_short, read_refused, read_accepted}
 use Rattle.sheet.proofs.reading.test_read.Goals as goal
@@ -22,12 +23,14 @@ pub test_sheet-requires : goal.test_sheet-requires
 test_sheet-requires c =
     (sheet_fits _ _ (sym c.sized.ensures ∙ c.if-not-sized.false)).0
 
-pub returns-in-Finished : goal.returns-in-Finished
-returns-in-Finished c =
+pub returns : goal.returns
+returns c =
     read_accepted _ _ _ _ _ c.sized.ensures _ c.count-e.ensures.0 c.if-not-sized.false
-    c.if-list-e.false c.if-sums-e.false _ c.test_sheet.ensures _ c.in-Finished.is
+    c.if-list-e.false c.if-sums-e.false _ c.test_sheet.ensures _ c.in_ok-test_sheet.was
 
-pub returns-in-Refused : goal.returns-in-Refused
-returns-in-Refused c =
+pub returns-in_err-test_sheet : goal.returns-in_err-test_sheet
+returns-in_err-test_sheet c =
+    let p = err_from_is_err_and c.from_residual.result c.from_residual.ensures.1 in
+    rw (p.1, p.2) (
     read_refused _ _ _ _ _ c.sized.ensures _ c.count-e.ensures.0 c.if-not-sized.false
-    c.if-list-e.false c.if-sums-e.false _ c.test_sheet.ensures _ c.in-Refused.is
+    c.if-list-e.false c.if-sums-e.false _ c.test_sheet.ensures _ c.in_err-test_sheet.was)
