@@ -17,14 +17,13 @@ use Rattle.words.specs.Bytes.{value_of, field}
 use Rattle.run.specs.Refusal.{Test, refusal, tested}
 use Rattle.run.specs.Run.{Limits, in_range, is_ticket}
 use Rattle.run.specs.Tests.{of_sizes, of_ticket}
-use Rattle.run.specs.Answers.{answer_of}
+use Rattle.std.specs.Prelude.{Ok, Err, ⊤}
+use Rattle.run.specs.Answers.{answer_of, Verdict, verdict_of}
 use Rattle.run.specs.declared.Refusal.{Refusal}
-use Rattle.run.specs.declared.Answer.{Answer}
-use Rattle.run.specs.declared.Answer.TheVariants.{Finished, Refused}
 use Rattle.run.proofs.Range.{range_of, ticket_row, ticket_block}
 use Rattle.run.proofs.Testing.{Left, here, past, none_left, part_here, part_past, part_passes, passed, ticket_passed}
 use Rattle.run.specs.Call.{Call, refused_by, answered, Does}
-use Rattle.run.proofs.Calls.{finishes, was_worked, turned_down}
+use Rattle.run.proofs.Calls.{finishes, was_passed, turned_back}
 use Rattle.ledger.specs.Ledger.{View, view_of, ledger_size, mark_at, blocks_in, bit_in, mark_in, enter, Enterable}
 use Rattle.ledger.specs.Calls.{of_ledger, of_marks, post_tests, post_call}
 
@@ -143,7 +142,7 @@ may_enter lim v s shows p C row block sum t =
 -- ---- the tests in their order
 
 -- after those of the ticket the byte of its mark is in a ledger that has its size
-pub mark_inside : (lim : Limits) (p C row block : ℕ) (a : Answer) → answer_of a ≡ tested (of_ticket lim p C row block) → (v : ℕ) → a ≡ Finished v
+pub mark_inside : (lim : Limits) (p C row block : ℕ) (a : Verdict) → verdict_of a ≡ tested (of_ticket lim p C row block) → (v : ⊤) → a ≡ Ok v
     → (size : ℕ) → size ≡ ledger_size lim → mark_at lim row block < size
 mark_inside lim p C row block a e v f size h =
     let t = ticket_passed lim p C row block [] (part_passes _ a e v f) in
@@ -180,25 +179,25 @@ module _ (lim : Limits) (s : List ℕ) (p C row block : ℕ) (sum : List ℕ) wh
   pub sum_size : (length sum ≡ 16 → ⊥) → negsuc 0 ≡ answered this
   sum_size h = here all_tests (right_fails (eqb (length s) (ledger_size lim)) _ (ne_eqb _ _ h))
 
-  module _ (h : length s ≡ ledger_size lim) (l : length sum ≡ 16) (a : Answer) (ea : answer_of a ≡ tested (of_ticket lim p C row block)) where
+  module _ (h : length s ≡ ledger_size lim) (l : length sum ≡ 16) (a : Verdict) (ea : verdict_of a ≡ tested (of_ticket lim p C row block)) where
     from_ticket : Left this (of_ticket lim p C row block ++ of_ledger_on)
     from_ticket = past all_tests (and_both (eqb (length s) (ledger_size lim)) _ (eq-eqb _ _ h) (eq-eqb _ _ l))
 
-    pub no_ticket : (r : Refusal) → a ≡ Refused r → answer_of (Refused r) ≡ answered this
+    pub no_ticket : (r : Refusal) → a ≡ Err r → answer_of (Err r) ≡ answered this
     no_ticket = part_here _ a ea of_ledger_on from_ticket
 
-    module _ (v : ℕ) (f : a ≡ Finished v) where
+    module _ (v : ⊤) (f : a ≡ Ok v) where
       is_one : is_ticket lim C row block ≡ true
       is_one = (ticket_passed lim p C row block [] (part_passes _ a ea v f)).1
 
-      module _ (b : Answer) (eb : answer_of b ≡ tested (of_ledger (view_of lim s) p C)) where
+      module _ (b : Verdict) (eb : verdict_of b ≡ tested (of_ledger (view_of lim s) p C)) where
         from_ledger : Left this of_ledger_on
         from_ledger = part_past _ a ea of_ledger_on from_ticket refl v f
 
-        pub other_ledger : (r : Refusal) → b ≡ Refused r → answer_of (Refused r) ≡ answered this
+        pub other_ledger : (r : Refusal) → b ≡ Err r → answer_of (Err r) ≡ answered this
         other_ledger = part_here _ b eb of_mark from_ledger
 
-        module _ (w : ℕ) (g : b ≡ Finished w) where
+        module _ (w : ⊤) (g : b ≡ Ok w) where
           is_bit : mark_in lim s row block ≡ bit_in lim s row block
           unfolding view_of
           is_bit = mark_is_bit lim s C row block (ledger_passed (view_of lim s) p C [] (part_passes _ b eb w g)).2 is_one
@@ -220,18 +219,18 @@ pub sum_read : (sum : List ℕ) → length sum ≡ 16 → field sum 0 16 ≡ val
 unfolding field
 sum_read sum h = ap value_of (take_all 16 sum (omega arith))
 
-module _ (lim : Limits) (s : List ℕ) (p C row block : ℕ) (sum : List ℕ) (a : Answer)
-    (tested : answer_of a ≡ answered (post_call lim s p C row block sum)) where
-  pub none_applied : (v : ℕ) → a ≡ Finished v → (length sum ≡ 16) × Enterable lim s row block
-  none_applied v e = enterable lim s p C row block sum (was_worked _ a tested v e).0
+module _ (lim : Limits) (s : List ℕ) (p C row block : ℕ) (sum : List ℕ) (a : Verdict)
+    (tested : verdict_of a ≡ answered (post_call lim s p C row block sum)) where
+  pub none_applied : (v : ⊤) → a ≡ Ok v → (length sum ≡ 16) × Enterable lim s row block
+  none_applied v e = enterable lim s p C row block sum (was_passed _ a tested v e)
 
-  pub posted : (v x : ℕ) (t : List ℕ) → a ≡ Finished v → x ≡ field sum 0 16 → t ≡ enter lim s row block x
+  pub posted : (v : ⊤) (x : ℕ) (t : List ℕ) → a ≡ Ok v → x ≡ field sum 0 16 → t ≡ enter lim s row block x
       → Does (post_call lim s p C row block sum) (pos 0) (t ∷ [])
   unfolding post_call
   posted v x t e ex et =
-      let f = finishes (post_call lim s p C row block sum) (was_worked _ a tested v e).0 in
+      let f = finishes (post_call lim s p C row block sum) (was_passed _ a tested v e) in
       (f.0, ap (λ (b : List ℕ). b ∷ []) (et ∙ ap (enter lim s row block) (ex ∙ sum_read sum (none_applied v e).0)) ∙ f.1)
 
-  pub not_posted : (r : Refusal) → a ≡ Refused r → Does (post_call lim s p C row block sum) (answer_of (Refused r)) (s ∷ [])
+  pub not_posted : (r : Refusal) → a ≡ Err r → Does (post_call lim s p C row block sum) (answer_of (Err r)) (s ∷ [])
   unfolding post_call
-  not_posted r e = turned_down (post_call lim s p C row block sum) a tested r e
+  not_posted r e = turned_back (post_call lim s p C row block sum) a tested r e

@@ -9,13 +9,13 @@ ghost use Rattle.words.specs.Words.{joined};
 ghost use Rattle.series.specs.Names.{formula_of};
 ghost use Rattle.run.specs.Refusal.{tested};
 ghost use Rattle.run.specs.Run.{limits_of};
-ghost use Rattle.run.specs.Answers.{answer_of};
+ghost use Rattle.run.specs.Answers.{answer_of, verdict_of};
 ghost use Rattle.run.specs.Call.{answered, Does};
 ghost use Rattle.ledger.specs.Ledger.{ledger_size, pos_in, blocks_in, in_order, view_of, Enterable};
 ghost use Rattle.ledger.specs.Ledger as definition;
 ghost use Rattle.ledger.specs.Calls.{of_ledger, open_call, post_call};
 
-use run::{Answer, Refusal};
+use run::{Answer, Refusal, Ticket};
 use series::Series;
 use words::Wide;
 
@@ -31,57 +31,59 @@ pub fn open(f: Series, p: u64, c: u64, ledger: &mut [u8]) -> Answer
     ensures { Does (open_call (limits_of (formula_of f)) p c ledger.old) (answer_of result) (ledger.new ∷ []) }
 {
     if ledger.len() != ledger_size(f) {
-        return Answer::Refused(Refusal::WrongSize);
+        return Err(Refusal::WrongSize);
     }
     if !run::in_range(f, p, c) {
-        return Answer::Refused(Refusal::OutOfRange);
+        return Err(Refusal::OutOfRange);
     }
     words::clear(ledger);
     words::put(ledger, 0, 8, p);
     words::put(ledger, 8, 2, c);
-    Answer::Finished(0)
+    Ok(0)
 }
 
-// Whether a ledger is in order.
-pub fn in_order(f: Series, s: &[u8]) -> bool
-    requires { length s.now ≡ ledger_size (limits_of (formula_of f)) }
-    ensures { result ≡ in_order (limits_of (formula_of f)) s.now }
-{
-    let p = words::get(s, 0, 8);
-    let c = words::get(s, 8, 2);
-    if !run::in_range(f, p, c) {
-        return false;
-    }
-    if words::get(s, 10, 6) != 0 {
-        return false;
-    }
-    marks::none_from(f, s, c as usize)
+// The bytes of a ledger, as many as one of its formula has.
+#[derive(Clone, Copy)]
+pub struct Ledger<'a> {
+    pub f: Series,
+    pub bytes: &'a [u8],
+    ghost sized: { length bytes.now ≡ ledger_size (limits_of (formula_of f)) },
 }
 
-// Whether a ledger's run is p, c.
-pub fn same_run(s: &[u8], p: u64, c: u64) -> bool
-    requires { 10 ≤ length s.now }
-    ensures { result ≡ (eqb p (pos_in s.now) && eqb c (blocks_in s.now)) }
-{
-    if p == words::get(s, 0, 8) {
-        c == words::get(s, 8, 2)
-    } else {
-        false
+impl<'a> Ledger<'a> {
+    // Whether it is in order.
+    #[tactic(auto, unfolding(crate::specs::Ledger::in_order, crate::specs::Ledger::pos_in, crate::specs::Ledger::blocks_in))]
+    pub fn in_order(&self) -> bool
+        ensures { result ≡ in_order (limits_of (formula_of self.now.f)) self.now.bytes.now }
+    {
+        let p = words::get(self.bytes, 0, 8);
+        let c = words::get(self.bytes, 8, 2);
+        run::in_range(self.f, p, c)
+            && words::get(self.bytes, 10, 6) == 0
+            && self.none_from(c as usize)
     }
-}
 
-// What the refusal table says of a ledger that has its size, and of the run p, c that a call names.
-pub fn test_ledger(f: Series, s: &[u8], p: u64, c: u64) -> Answer
-    requires { length s.now ≡ ledger_size (limits_of (formula_of f)) }
-    ensures { answer_of result ≡ tested (of_ledger (view_of (limits_of (formula_of f)) s.now) p c) }
-{
-    if !in_order(f, s) {
-        return Answer::Refused(Refusal::OutOfOrder);
+    // Whether its run is p, c.
+    #[tactic(auto, unfolding(crate::specs::Ledger::pos_in, crate::specs::Ledger::blocks_in))]
+    pub fn same_run(&self, p: u64, c: u64) -> bool
+        ensures { result ≡ (eqb p (pos_in self.now.bytes.now) && eqb c (blocks_in self.now.bytes.now)) }
+    {
+        p == words::get(self.bytes, 0, 8) && c == words::get(self.bytes, 8, 2)
     }
-    if !same_run(s, p, c) {
-        return Answer::Refused(Refusal::OtherRun);
+
+    // What the refusal table says of it, and of the run p, c that a call names.
+    #[tactic(auto, unfolding(run::specs::Refusal::refusal, run::specs::Refusal::answer, crate::specs::Ledger::view_of))]
+    pub fn test_ledger(&self, p: u64, c: u64) -> Result<(), Refusal>
+        ensures { verdict_of result ≡ tested (of_ledger (view_of (limits_of (formula_of self.now.f)) self.now.bytes.now) p c) }
+    {
+        if !self.in_order() {
+            return Err(Refusal::OutOfOrder);
+        }
+        if !self.same_run(p, c) {
+            return Err(Refusal::OtherRun);
+        }
+        Ok(())
     }
-    Answer::Finished(0)
 }
 
 // Adds x to the sum of a row and sets the bit of a row and block.
@@ -89,66 +91,38 @@ pub fn enter(f: Series, ledger: &mut [u8], row: usize, block: usize, x: Wide)
     requires { Enterable (limits_of (formula_of f)) ledger.old row block }
     ensures { ledger.new ≡ definition.enter (limits_of (formula_of f)) ledger.old row block (joined x.hi x.lo) }
 {
-    let mut sums = sums::get(f, ledger);
+    let mut sums = Ledger { f, bytes: ledger }.sums();
     sums[row] = words::add(sums[row], x);
     marks::set_bit(f, ledger, row, block);
     sums::put(f, ledger, sums);
 }
 
 // What the refusal table says of a post of one ticket: its tests in the order of their numbers.
-pub fn test_post(
-    f: Series,
-    ledger: &[u8],
-    p: u64,
-    c: u64,
-    row: u64,
-    block: u64,
-    sum: &[u8],
-) -> Answer
-    ensures { answer_of result ≡ answered (post_call (limits_of (formula_of f)) ledger.now p c row block sum.now) }
+pub fn test_post(f: Series, ledger: &[u8], t: Ticket, sum: &[u8]) -> Result<(), Refusal>
+    ensures { verdict_of result ≡ answered (post_call (limits_of (formula_of f)) ledger.now t.p t.c t.row t.block sum.now) }
 {
     if ledger.len() != ledger_size(f) {
-        return Answer::Refused(Refusal::WrongSize);
+        return Err(Refusal::WrongSize);
     }
     if sum.len() != 16 {
-        return Answer::Refused(Refusal::WrongSize);
+        return Err(Refusal::WrongSize);
     }
-    if let Answer::Refused(r) = run::test_ticket(f, p, c, row, block) {
-        return Answer::Refused(r);
+    run::test_ticket(f, t)?;
+    let ledger = Ledger { f, bytes: ledger };
+    ledger.test_ledger(t.p, t.c)?;
+    if ledger.bit_set(t.row as usize, t.block as usize) {
+        return Err(Refusal::Marked);
     }
-    if let Answer::Refused(r) = test_ledger(f, ledger, p, c) {
-        return Answer::Refused(r);
-    }
-    if marks::bit_set(f, ledger, row as usize, block as usize) {
-        return Answer::Refused(Refusal::Marked);
-    }
-    Answer::Finished(0)
+    Ok(())
 }
 
 // Posts a ticket with its sum. All tests are done before a byte is written.
-pub fn post(
-    f: Series,
-    ledger: &mut [u8],
-    p: u64,
-    c: u64,
-    row: u64,
-    block: u64,
-    sum: &[u8],
-) -> Answer
-    ensures { Does (post_call (limits_of (formula_of f)) ledger.old p c row block sum.now) (answer_of result)
+pub fn post(f: Series, ledger: &mut [u8], t: Ticket, sum: &[u8]) -> Answer
+    ensures { Does (post_call (limits_of (formula_of f)) ledger.old t.p t.c t.row t.block sum.now) (answer_of result)
         (ledger.new ∷ []) }
 {
-    match test_post(f, ledger, p, c, row, block, sum) {
-        Answer::Finished(_) => {
-            enter(
-                f,
-                ledger,
-                row as usize,
-                block as usize,
-                words::get_wide(sum, 0),
-            );
-            Answer::Finished(0)
-        }
-        Answer::Refused(r) => Answer::Refused(r),
-    }
+    test_post(f, ledger, t, sum)?;
+    let x = words::get_wide(sum, 0);
+    enter(f, ledger, t.row as usize, t.block as usize, x);
+    Ok(0)
 }

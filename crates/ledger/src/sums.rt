@@ -8,23 +8,23 @@ ghost use Rattle.run.specs.Run.{limits_of};
 ghost use Rattle.ledger.specs.Ledger.{ledger_size};
 ghost use Rattle.ledger.specs.RowSums.{value_at, held_in, with_sums};
 
+use crate::Ledger;
 use series::Series;
 use words::Wide;
 
-// The sums in a ledger: as many are read as there are rows.
-pub fn get(f: Series, s: &[u8]) -> [Wide; 7]
-    requires { length s.now ≡ ledger_size (limits_of (formula_of f)) }
-    ensures { (row : ℕ) → value_at result row ≡ held_in (row_count (formula_of f)) s.now row }
-{
-    let rows = series::formula::row_count(f);
-    let zero = Wide { hi: 0, lo: 0 };
-    let mut sums = [zero; 7];
-    let mut row = 0;
-    while row < rows {
-        sums[row] = words::get_wide(s, 16 + 16 * row);
-        row += 1;
+impl<'a> Ledger<'a> {
+    // Its sums: as many are read as there are rows.
+    pub fn sums(&self) -> [Wide; 7]
+        ensures { (row : ℕ) → value_at result row ≡ held_in (row_count (formula_of self.now.f)) self.now.bytes.now row }
+    {
+        let rows = series::formula::row_count(self.f);
+        let zero = Wide { hi: 0, lo: 0 };
+        let mut sums = [zero; 7];
+        for row in 0..rows {
+            sums[row] = words::get_wide(self.bytes, 16 + 16 * row);
+        }
+        sums
     }
-    sums
 }
 
 // Puts the sums back: as many as there are rows.
@@ -32,11 +32,9 @@ pub fn put(f: Series, s: &mut [u8], sums: [Wide; 7])
     requires { length s.old ≡ ledger_size (limits_of (formula_of f)) }
     ensures { s.new ≡ with_sums (limits_of (formula_of f)) s.old (value_at sums) }
 {
-    let count = series::formula::row_count(f);
-    let mut row = 0;
-    while row < count {
+    let rows = series::formula::row_count(f);
+    for row in 0..rows {
         words::put_wide(s, 16 + 16 * row, sums[row]);
-        row += 1;
     }
 }
 
@@ -45,10 +43,8 @@ pub fn total(sums: [Wide; 7]) -> Wide
     ensures { joined result.hi result.lo ≡ sum (value_at sums) 0 7 % modulus }
 {
     let mut total = Wide { hi: 0, lo: 0 };
-    let mut row = 0;
-    while row < 7 {
-        total = words::add(total, sums[row]);
-        row += 1;
+    for sum in &sums {
+        total = words::add(total, *sum);
     }
     total
 }

@@ -2,8 +2,7 @@
 -- Assumes nothing.
 use mathlib.Core.Path.{◌≡◌}
 use mathlib.Core.List.{◌++◌}
-use Prim.Native.Nat.{◌-◌, ◌≤◌}
-use lib.ListN.{length, take, drop}
+use lib.ListN.{take, drop}
 use Rattle.ledger.specs.Ledger.{sum_at}
 use Rattle.ledger.specs.Plain.{sum_rows}
 use Rattle.ledger.specs.RowSums.{value_at}
@@ -11,7 +10,4 @@ use Rattle.ledger.proofs.sums.put.Given as goal
 
 abbrev pub invariant-loop-row : goal.invariant-loop-row
 invariant-loop-row l =
-    (l.row ≤ l.count) × (length l.s ≡ length l.initial.s) × (l.s ≡ take 16 l.initial.s ++ sum_rows (value_at l.sums) 0 l.row ++ drop (sum_at l.row) l.initial.s)
-
-abbrev pub decreases-loop-row : goal.decreases-loop-row
-decreases-loop-row l = l.count - l.row
+    l.s ≡ take 16 l.initial.s ++ sum_rows (value_at l.sums) 0 l.row ++ drop (sum_at l.row) l.initial.s

@@ -10,15 +10,15 @@ use Rattle.ledger.specs.RowSums.{value_at}
 use Rattle.ledger.proofs.RowSums.{none_totalled}
 use Rattle.ledger.proofs.sums.total.Goals as goal
 
-pub loop-row-init : goal.loop-row-init
-loop-row-init c = (omega arith, none_totalled _)
+pub loop-sum-init : goal.loop-sum-init
+loop-sum-init c = none_totalled _
 
-pub loop-row-preserved : goal.loop-row-preserved
+pub loop-sum-preserved : goal.loop-sum-preserved
 unfolding value_at
-loop-row-preserved c =
-    (omega arith, total_next modulus (value_at c.args.sums) 0 _ _ _ c.loop-row.invariant.1 c.add-total.ensures)
+loop-sum-preserved c =
+    total_next modulus (value_at c.args.sums) 0 _ _ _ c.loop-sum.invariant c.add-total.ensures
 
 pub returns : goal.returns
 returns c =
-    let e : c.loop-row.row ≡ 7 = omega arith in
-    rw (e, zero-add (sum (value_at c.args.sums) 0 7)) at c.loop-row.invariant.1
+    let e : c.loop-sum.sum-index ≡ 7 = omega arith in
+    rw (e, zero-add (sum (value_at c.args.sums) 0 7)) at c.loop-sum.invariant

@@ -1,28 +1,28 @@
--- `ledger::marks::count_row` meets its contract: at each turn the marks of the blocks passed are counted, of one block or of a byte's eight.
+-- `ledger::Ledger::count_row` meets its contract: at each turn the marks of the blocks passed are counted, of one block or of a byte's eight.
 -- Assumes nothing.
 use mathlib.Core.Path.{◌≡◌}
 use Prim.Native.Nat.{◌+◌, ◌*◌, ◌/◌, ◌%◌}
 use native.Mathlib.Omega.{arith}
 use Rattle.series.proofs.FewRows.{few_rows}
 use Rattle.ledger.proofs.Counting.{at_most_one, no_block, one_block, eight_blocks}
-use Rattle.ledger.proofs.marks.count_row.Goals as goal
+use Rattle.ledger.proofs.Ledger.count_row.Goals as goal
 
 pub overflow_mul-at : goal.overflow_mul-at
-overflow_mul-at c = let few = few_rows c.args.f in record { fits = omega (arith, few) }
+overflow_mul-at c = let few = few_rows c.args.self.now.f in record { fits = omega (arith, few) }
 
 pub overflow_add-at : goal.overflow_add-at
-overflow_add-at c = let few = few_rows c.args.f in record { fits = omega (arith, few, c.start.ensures) }
+overflow_add-at c = let few = few_rows c.args.self.now.f in record { fits = omega (arith, few, c.start.ensures) }
 
 pub loop-block-init : goal.loop-block-init
 loop-block-init c = (omega arith, omega arith, omega arith, no_block _ _ _ _)
 
 pub overflow_add-at-then-block-end : goal.overflow_add-at-then-block-end
 overflow_add-at-then-block-end c =
-    let few = few_rows c.args.f in
+    let few = few_rows c.args.self.now.f in
     record { fits = omega (arith, few, c.start.ensures) }
 
-pub bounds-s-at : goal.bounds-s-at
-bounds-s-at c = omega (arith, c.start.ensures)
+pub bounds-self-at : goal.bounds-self-at
+bounds-self-at c = omega (arith, c.start.ensures)
 
 pub overflow_add-marks : goal.overflow_add-marks
 overflow_add-marks c = let few = c.ones-marks.ensures.few in record { fits = omega (arith, few) }

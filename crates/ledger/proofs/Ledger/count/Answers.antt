@@ -1,14 +1,14 @@
--- `ledger::marks::count` meets its contract: at each turn the marks of the rows passed are counted.
+-- `ledger::Ledger::count` meets its contract: at each turn the marks of the rows passed are counted.
 -- Assumes nothing.
 use mathlib.Core.Path.{◌≡◌}
 use native.Mathlib.Omega.{arith}
 use Rattle.series.specs.Names.{formula_of}
 use Rattle.series.specs.Series.{row_count}
 use Rattle.ledger.proofs.Counting.{no_row, one_row}
-use Rattle.ledger.proofs.marks.count.Goals as goal
+use Rattle.ledger.proofs.Ledger.count.Goals as goal
 
 pub loop-row-init : goal.loop-row-init
-loop-row-init c = (omega arith, omega arith, no_row _ _ _ _)
+loop-row-init c = (omega arith, no_row _ _ _ _)
 
 pub overflow_add-marks : goal.overflow_add-marks
 overflow_add-marks c = record { fits = omega (arith, c.count_row-marks.ensures.few) }
@@ -16,9 +16,9 @@ overflow_add-marks c = record { fits = omega (arith, c.count_row-marks.ensures.f
 pub loop-row-preserved : goal.loop-row-preserved
 loop-row-preserved c =
     let few = c.count_row-marks.ensures.few in
-    (omega arith, omega (arith, few), one_row _ _ _ _ _ _ _ c.loop-row.invariant.2 c.count_row-marks.ensures.counts)
+    (omega (arith, few), one_row _ _ _ _ _ _ _ c.loop-row.invariant.1 c.count_row-marks.ensures.counts)
 
 pub returns : goal.returns
 returns c =
-    let e : c.loop-row.row ≡ row_count (formula_of c.args.f) = omega arith in
-    rw e at c.loop-row.invariant.2
+    let e : c.loop-row.row ≡ row_count (formula_of c.args.self.now.f) = omega arith in
+    rw e at c.loop-row.invariant.1
