@@ -30,110 +30,146 @@ pub fn sized(f: Series, s: &[u8]) -> bool
     16 <= s.len() && s.len() <= sheet_most(f)
 }
 
-// How many tickets the head counts.
-pub fn count(s: &[u8]) -> usize
-    requires { 16 ≤ length s.now }
-    ensures { (result ≡ sheet_count s.now) × (result < 65536) }
-{
-    words::get(s, 10, 2) as usize
+// The bytes of a sheet that has its head.
+#[derive(Clone, Copy)]
+pub struct Sheet<'a> {
+    pub bytes: &'a [u8],
+    ghost head: { 16 ≤ length bytes.now },
 }
 
-// The row of entry i.
-pub fn row(s: &[u8], i: usize) -> u64
-    requires { 20 + 4 * i ≤ length s.now }
-    ensures { (result ≡ row_in s.now i) × (result < 256) }
-{
-    s[16 + 4 * i] as u64
+// The first entries of a sheet, as many as `count`, which has room for them.
+#[derive(Clone, Copy)]
+pub struct Entries<'a> {
+    pub bytes: &'a [u8],
+    pub count: usize,
+    ghost room: { 16 + 4 * count ≤ length bytes.now },
 }
 
-// The block of entry i.
-pub fn block(s: &[u8], i: usize) -> u64
-    requires { 20 + 4 * i ≤ length s.now }
-    ensures { (result ≡ block_in s.now i) × (result < 65536) }
+// The number in the two bytes from `at` on.
+fn two_bytes(s: &[u8], at: usize) -> u64
+    requires { at + 2 ≤ length s.now }
+    ensures { (result ≡ field s.now at 2) × (result < 65536) }
 {
-    words::get(s, 18 + 4 * i, 2)
+    words::get(s, at, 2)
 }
 
-// What the entries ascend by.
-pub fn key(s: &[u8], i: usize) -> u64
-    requires { 20 + 4 * i ≤ length s.now }
-    ensures { result ≡ 256 * row_in s.now i + block_in s.now i }
-{
-    256 * row(s, i) + block(s, i)
+impl<'a> Entries<'a> {
+    // The row of entry i.
+    #[tactic(auto, unfolding(crate::specs::Sheet::row_in))]
+    pub fn row(&self, i: usize) -> u64
+        requires { 20 + 4 * i ≤ length self.now.bytes.now }
+        ensures { (result ≡ row_in self.now.bytes.now i) × (result < 256) }
+    {
+        let row = self.bytes[16 + 4 * i];
+        row as u64
+    }
+
+    // The block of entry i.
+    #[tactic(auto, unfolding(crate::specs::Sheet::block_in))]
+    pub fn block(&self, i: usize) -> u64
+        requires { 20 + 4 * i ≤ length self.now.bytes.now }
+        ensures { (result ≡ block_in self.now.bytes.now i) × (result < 65536) }
+    {
+        two_bytes(self.bytes, 18 + 4 * i)
+    }
+
+    // What the entries ascend by.
+    pub fn key(&self, i: usize) -> u64
+        requires { 20 + 4 * i ≤ length self.now.bytes.now }
+        ensures { result ≡ 256 * row_in self.now.bytes.now i + block_in self.now.bytes.now i }
+    {
+        256 * self.row(i) + self.block(i)
+    }
+
+    // The sum of ticket i, where the bodies of all of them are there.
+    pub fn body(&self, i: usize) -> Wide
+        requires { (i < self.now.count) × (16 + 20 * self.now.count ≤ length self.now.bytes.now) }
+        ensures { joined result.hi result.lo ≡ field self.now.bytes.now (16 + 4 * self.now.count + 16 * i) 16 }
+    {
+        words::get_wide(self.bytes, 16 + 4 * self.count + 16 * i)
+    }
+
+    // Whether the zero byte of each is zero.
+    pub fn zero_bytes(&self) -> bool
+        ensures { result ≡ all_below self.now.count (λ i. eqb (get_or self.now.bytes.now (17 + 4 * i) 0) 0) }
+    {
+        for i in 0..self.count {
+            if self.bytes[17 + 4 * i] != 0 {
+                return false;
+            }
+        }
+        true
+    }
+
+    // Whether they are strictly ascending.
+    pub fn ascending(&self) -> bool
+        ensures { result ≡ definition.ascending (entries_from self.now.bytes.now 0 self.now.count) }
+    {
+        for i in 1..self.count {
+            if self.key(i) <= self.key(i - 1) {
+                return false;
+            }
+        }
+        true
+    }
+
+    // Whether all are tickets of a run with c blocks.
+    pub fn all_tickets(&self, f: Series, c: u64) -> bool
+        ensures { result ≡ all_tickets (limits_of (formula_of f)) c (entries_from self.now.bytes.now 0 self.now.count) }
+    {
+        for i in 0..self.count {
+            if !run::is_ticket(f, c, self.row(i), self.block(i)) {
+                return false;
+            }
+        }
+        true
+    }
 }
 
-// The sum of ticket i, where the contents have e.
-pub fn body(s: &[u8], e: usize, i: usize) -> Wide
-    requires { (i < e) × (16 + 20 * e ≤ length s.now) }
-    ensures { joined result.hi result.lo ≡ field s.now (16 + 4 * e + 16 * i) 16 }
-{
-    words::get_wide(s, 16 + 4 * e + 16 * i)
-}
+impl<'a> Sheet<'a> {
+    // How many tickets the head counts.
+    #[tactic(auto, unfolding(crate::specs::Sheet::sheet_count))]
+    pub fn count(&self) -> usize
+        ensures { (result ≡ sheet_count self.now.bytes.now) × (result < 65536) }
+    {
+        two_bytes(self.bytes, 10) as usize
+    }
 
-// Whether the zero byte of each of e entries is zero.
-pub fn zero_bytes(s: &[u8], e: usize) -> bool
-    requires { 16 + 4 * e ≤ length s.now }
-    ensures { result ≡ all_below e (λ i. eqb (get_or s.now (17 + 4 * i) 0) 0) }
-{
-    for i in 0..e {
-        if s[17 + 4 * i] != 0 {
+    // Whether it has its length, its zero bytes, and ascending contents.
+    #[tactic(auto, unfolding(crate::specs::Sheet::well_formed, crate::specs::Sheet::entries))]
+    pub fn well_formed(&self) -> bool
+        ensures { result ≡ well_formed self.now.bytes.now }
+    {
+        let count = self.count();
+        if self.bytes.len() != 16 + 20 * count {
             return false;
         }
+        let entries = Entries {
+            bytes: self.bytes,
+            count,
+        };
+        words::get(self.bytes, 12, 4) == 0 && entries.zero_bytes() && entries.ascending()
     }
-    true
-}
 
-// Whether e entries are strictly ascending.
-pub fn ascending(s: &[u8], e: usize) -> bool
-    requires { 16 + 4 * e ≤ length s.now }
-    ensures { result ≡ definition.ascending (entries_from s.now 0 e) }
-{
-    for i in 1..e {
-        if key(s, i) <= key(s, i - 1) {
-            return false;
+    // What the refusal table says of it where it has a size that a sheet can have: its run, its form and its tickets.
+    #[tactic(auto, unfolding(run::specs::Refusal::refusal, run::specs::Refusal::answer, crate::specs::Sheet::sheet_pos, crate::specs::Sheet::sheet_blocks, crate::specs::Sheet::entries))]
+    pub fn test_sheet(&self, f: Series) -> Result<(), Refusal>
+        ensures { verdict_of result ≡ tested (of_sheet (limits_of (formula_of f)) self.now.bytes.now) }
+    {
+        let c = two_bytes(self.bytes, 8);
+        if !run::in_range(f, words::get(self.bytes, 0, 8), c) {
+            return Err(Refusal::OutOfRange);
         }
-    }
-    true
-}
-
-// Whether a sheet has its length, its zero bytes, and ascending contents.
-#[tactic(auto, unfolding(crate::specs::Sheet::well_formed, crate::specs::Sheet::entries))]
-pub fn well_formed(s: &[u8]) -> bool
-    requires { 16 ≤ length s.now }
-    ensures { result ≡ well_formed s.now }
-{
-    let e = count(s);
-    s.len() == 16 + 20 * e && words::get(s, 12, 4) == 0 && zero_bytes(s, e) && ascending(s, e)
-}
-
-// Whether e entries are tickets of a run with c blocks.
-pub fn all_tickets(f: Series, s: &[u8], c: u64, e: usize) -> bool
-    requires { 16 + 4 * e ≤ length s.now }
-    ensures { result ≡ all_tickets (limits_of (formula_of f)) c (entries_from s.now 0 e) }
-{
-    for i in 0..e {
-        if !run::is_ticket(f, c, row(s, i), block(s, i)) {
-            return false;
+        if !self.well_formed() {
+            return Err(Refusal::Malformed);
         }
+        let entries = Entries {
+            bytes: self.bytes,
+            count: self.count(),
+        };
+        if !entries.all_tickets(f, c) {
+            return Err(Refusal::NoTicket);
+        }
+        Ok(())
     }
-    true
-}
-
-// What the refusal table says of a sheet that has its size: its run, its form and its tickets.
-#[tactic(auto, unfolding(run::specs::Refusal::refusal, run::specs::Refusal::answer, crate::specs::Sheet::sheet_pos, crate::specs::Sheet::sheet_blocks, crate::specs::Sheet::entries))]
-pub fn test_sheet(f: Series, s: &[u8]) -> Result<(), Refusal>
-    requires { 16 ≤ length s.now }
-    ensures { verdict_of result ≡ tested (of_sheet (limits_of (formula_of f)) s.now) }
-{
-    let c = words::get(s, 8, 2);
-    if !run::in_range(f, words::get(s, 0, 8), c) {
-        return Err(Refusal::OutOfRange);
-    }
-    if !well_formed(s) {
-        return Err(Refusal::Malformed);
-    }
-    if !all_tickets(f, s, c, count(s)) {
-        return Err(Refusal::NoTicket);
-    }
-    Ok(())
 }

@@ -5,6 +5,7 @@ ghost use Rattle.words.specs.Words.{joined};
 ghost use Rattle.series.specs.Series.{Formula};
 ghost use Rattle.sheet.specs.Sheet.{listed, line, contents_of};
 
+use crate::lists::Pairs;
 use words::Wide;
 
 // Writes the head of a sheet of e tickets.
@@ -36,12 +37,12 @@ pub fn put_body(out: &mut [u8], e: usize, i: usize, sum: Wide)
 }
 
 // Writes the contents of a list.
-pub fn put_contents(list: &[u8], e: usize, out: &mut [u8])
-    requires { (length list.now ≡ 2 * e) × (16 + 4 * e ≤ length out.old) }
+pub fn put_contents(pairs: &Pairs, out: &mut [u8])
+    requires { 16 + 4 * pairs.now.count ≤ length out.old }
     ensures { (F : Formula) (p C : ℕ) → out.new
-        ≡ take 16 out.old ++ contents_of (listed F p C list.now) ++ drop (16 + 4 * e) out.old }
+        ≡ take 16 out.old ++ contents_of (listed F p C pairs.now.bytes.now) ++ drop (16 + 4 * pairs.now.count) out.old }
 {
-    for i in 0..e {
-        put_line(out, i, list[2 * i + 1] as u64, list[2 * i] as u64);
+    for i in 0..pairs.count {
+        put_line(out, i, pairs.row(i), pairs.block(i));
     }
 }

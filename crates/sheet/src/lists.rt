@@ -1,5 +1,6 @@
 // Lists: two bytes for each ticket, and what is asked of them.
-ghost use Rattle.std.specs.Prelude.{◌≡◌, ℕ, ◌+◌, ◌*◌, true, length};
+ghost use Rattle.std.specs.Prelude.{◌≡◌, ℕ, ◌+◌, ◌*◌, ◌<◌, true, length, get_or};
+ghost use Rattle.words.specs.Bytes.{field};
 ghost use Rattle.series.specs.Series.{Formula};
 ghost use Rattle.series.specs.Names.{formula_of};
 ghost use Rattle.run.specs.Refusal.{tested};
@@ -27,30 +28,64 @@ pub fn sized(f: Series, list: &[u8]) -> bool
     list.len() % 2 == 0 && list.len() <= most(f)
 }
 
-// Whether the e pairs of a list are strictly ascending.
-pub fn ascending(list: &[u8], e: usize) -> bool
-    requires { length list.now ≡ 2 * e }
-    ensures { (F : Formula) (p C : ℕ) → result ≡ definition.ascending (listed F p C list.now) }
-{
-    for i in 1..e {
-        if words::get(list, 2 * i, 2) <= words::get(list, 2 * (i - 1), 2) {
-            return false;
-        }
-    }
-    true
+// A list as pairs of bytes: the block's, then the row's.
+#[derive(Clone, Copy)]
+pub struct Pairs<'a> {
+    pub bytes: &'a [u8],
+    pub count: usize,
+    ghost even: { length bytes.now ≡ 2 * count },
 }
 
-// Whether the e pairs of a list are tickets of a run with c blocks.
-pub fn all_tickets(f: Series, c: u64, list: &[u8], e: usize) -> bool
-    requires { length list.now ≡ 2 * e }
-    ensures { (p : ℕ) → result ≡ all_tickets (limits_of (formula_of f)) c (listed (formula_of f) p c list.now) }
-{
-    for i in 0..e {
-        if !run::is_ticket(f, c, list[2 * i + 1] as u64, list[2 * i] as u64) {
-            return false;
-        }
+impl<'a> Pairs<'a> {
+    // The row of pair i.
+    pub fn row(&self, i: usize) -> u64
+        requires { i < self.now.count }
+        ensures { (result ≡ get_or self.now.bytes.now (2 * i + 1) 0) × (result < 256) }
+    {
+        let row = self.bytes[2 * i + 1];
+        row as u64
     }
-    true
+
+    // The block of pair i.
+    pub fn block(&self, i: usize) -> u64
+        requires { i < self.now.count }
+        ensures { (result ≡ get_or self.now.bytes.now (2 * i) 0) × (result < 256) }
+    {
+        let block = self.bytes[2 * i];
+        block as u64
+    }
+
+    // What the pairs ascend by.
+    pub fn key(&self, i: usize) -> u64
+        requires { i < self.now.count }
+        ensures { result ≡ field self.now.bytes.now (2 * i) 2 }
+    {
+        words::get(self.bytes, 2 * i, 2)
+    }
+
+    // Whether they are strictly ascending.
+    pub fn ascending(&self) -> bool
+        ensures { (F : Formula) (p C : ℕ) → result ≡ definition.ascending (listed F p C self.now.bytes.now) }
+    {
+        for i in 1..self.count {
+            if self.key(i) <= self.key(i - 1) {
+                return false;
+            }
+        }
+        true
+    }
+
+    // Whether all are tickets of a run with c blocks.
+    pub fn all_tickets(&self, f: Series, c: u64) -> bool
+        ensures { (p : ℕ) → result ≡ all_tickets (limits_of (formula_of f)) c (listed (formula_of f) p c self.now.bytes.now) }
+    {
+        for i in 0..self.count {
+            if !run::is_ticket(f, c, self.row(i), self.block(i)) {
+                return false;
+            }
+        }
+        true
+    }
 }
 
 // What the refusal table says of a list that has its size: its run, its form and its tickets.
@@ -59,14 +94,17 @@ pub fn test_list(f: Series, p: u64, c: u64, list: &[u8]) -> Result<(), Refusal>
     requires { list_sized (limits_of (formula_of f)) list.now ≡ true }
     ensures { verdict_of result ≡ tested (of_list (formula_of f) p c list.now) }
 {
-    let e = list.len() / 2;
+    let pairs = Pairs {
+        bytes: list,
+        count: list.len() / 2,
+    };
     if !run::in_range(f, p, c) {
         return Err(Refusal::OutOfRange);
     }
-    if !ascending(list, e) {
+    if !pairs.ascending() {
         return Err(Refusal::Malformed);
     }
-    if !all_tickets(f, c, list, e) {
+    if !pairs.all_tickets(f, c) {
         return Err(Refusal::NoTicket);
     }
     Ok(())

@@ -8,6 +8,7 @@ ghost use Rattle.sheet.specs.Sheet.{sheet_count, entries_from, list_of, bodies_o
 ghost use Rattle.sheet.specs.Calls.{over, read_call};
 
 use crate::contents;
+use crate::contents::{Entries, Sheet};
 use run::{Answer, Refusal};
 use series::Series;
 
@@ -18,34 +19,36 @@ pub fn test_read(f: Series, s: &[u8], list: &[u8], sums: &[u8]) -> Answer
     if !contents::sized(f, s) {
         return Err(Refusal::WrongSize);
     }
-    let e = contents::count(s);
+    let sheet = Sheet { bytes: s };
+    let e = sheet.count();
     if list.len() < 2 * e {
         return Err(Refusal::WrongSize);
     }
     if sums.len() < 16 * e {
         return Err(Refusal::WrongSize);
     }
-    contents::test_sheet(f, s)?;
+    sheet.test_sheet(f)?;
     Ok(e as u32)
 }
 
-// Writes the list of the first e tickets.
-pub fn put_list(s: &[u8], e: usize, list: &mut [u8])
-    requires { (16 + 4 * e ≤ length s.now) × (2 * e ≤ length list.old) }
-    ensures { list.new ≡ over (list_of (entries_from s.now 0 e)) list.old }
+// Writes the list of the tickets.
+pub fn put_list(entries: &Entries, list: &mut [u8])
+    requires { 2 * entries.now.count ≤ length list.old }
+    ensures { list.new ≡ over (list_of (entries_from entries.now.bytes.now 0 entries.now.count)) list.old }
 {
-    for i in 0..e {
-        words::put(list, 2 * i, 2, contents::key(s, i));
+    for i in 0..entries.count {
+        words::put(list, 2 * i, 2, entries.key(i));
     }
 }
 
 // Writes the sums of all tickets.
-pub fn put_sums(s: &[u8], e: usize, sums: &mut [u8])
-    requires { (e ≡ sheet_count s.now) × (16 + 20 * e ≤ length s.now) × (16 * e ≤ length sums.old) }
-    ensures { sums.new ≡ over (bodies_of (entries_from s.now 0 e)) sums.old }
+pub fn put_sums(entries: &Entries, sums: &mut [u8])
+    requires { (entries.now.count ≡ sheet_count entries.now.bytes.now) × (16 + 20 * entries.now.count ≤ length entries.now.bytes.now)
+        × (16 * entries.now.count ≤ length sums.old) }
+    ensures { sums.new ≡ over (bodies_of (entries_from entries.now.bytes.now 0 entries.now.count)) sums.old }
 {
-    for i in 0..e {
-        words::put_wide(sums, 16 * i, contents::body(s, e, i));
+    for i in 0..entries.count {
+        words::put_wide(sums, 16 * i, entries.body(i));
     }
 }
 
@@ -55,7 +58,11 @@ pub fn read(f: Series, s: &[u8], list: &mut [u8], sums: &mut [u8]) -> Answer
         (list.new ∷ sums.new ∷ []) }
 {
     let e = test_read(f, s, list, sums)?;
-    put_list(s, e as usize, list);
-    put_sums(s, e as usize, sums);
+    let entries = Entries {
+        bytes: s,
+        count: e as usize,
+    };
+    put_list(&entries, list);
+    put_sums(&entries, sums);
     Ok(e)
 }

@@ -11,6 +11,7 @@ ghost use Rattle.sheet.specs.Calls.{write_call};
 
 use run::{Answer, Refusal, Ticket};
 use series::Series;
+use sheet::lists::Pairs;
 use ticket::Part;
 
 // What the refusal table says of writing: its tests in the order of their numbers.
@@ -29,21 +30,22 @@ pub fn test_write(f: Series, p: u64, c: u64, list: &[u8], out: &[u8]) -> Answer
 }
 
 // Works the tickets, and writes their sums. A sheet does not carry the squarings.
-pub fn put_bodies(f: Series, p: u64, c: u64, list: &[u8], e: usize, out: &mut [u8])
-    requires { (length list.now ≡ 2 * e) × (16 + 20 * e ≤ length out.old) × (in_range (limits_of (formula_of f)) p c ≡ true)
-        × (all_tickets (limits_of (formula_of f)) c (listed (formula_of f) p c list.now) ≡ true) }
+pub fn put_bodies(f: Series, p: u64, c: u64, pairs: &Pairs, out: &mut [u8])
+    requires { (16 + 20 * pairs.now.count ≤ length out.old) × (in_range (limits_of (formula_of f)) p c ≡ true)
+        × (all_tickets (limits_of (formula_of f)) c (listed (formula_of f) p c pairs.now.bytes.now) ≡ true) }
     ensures { out.new
-        ≡ take (16 + 4 * e) out.old ++ bodies_of (listed (formula_of f) p c list.now) ++ drop (16 + 20 * e) out.old }
+        ≡ take (16 + 4 * pairs.now.count) out.old ++ bodies_of (listed (formula_of f) p c pairs.now.bytes.now)
+        ++ drop (16 + 20 * pairs.now.count) out.old }
 {
-    for i in 0..e {
+    for i in 0..pairs.count {
         let t = Ticket {
             p,
             c,
-            row: list[2 * i + 1] as u64,
-            block: list[2 * i] as u64,
+            row: pairs.row(i),
+            block: pairs.block(i),
         };
         let worked = ticket::sum(f, Part::Whole, t);
-        sheet::layout::put_body(out, e, i, worked.sum);
+        sheet::layout::put_body(out, pairs.count, i, worked.sum);
     }
 }
 
@@ -52,9 +54,12 @@ pub fn write(f: Series, p: u64, c: u64, list: &[u8], out: &mut [u8]) -> Answer
     ensures { Does (write_call (formula_of f) p c list.now out.old) (answer_of result) (out.new ∷ []) }
 {
     let size = test_write(f, p, c, list, out)?;
-    let e = list.len() / 2;
-    sheet::layout::put_head(p, c, e as u64, out);
-    sheet::layout::put_contents(list, e, out);
-    put_bodies(f, p, c, list, e, out);
+    let pairs = Pairs {
+        bytes: list,
+        count: list.len() / 2,
+    };
+    sheet::layout::put_head(p, c, pairs.count as u64, out);
+    sheet::layout::put_contents(&pairs, out);
+    put_bodies(f, p, c, &pairs, out);
     Ok(size)
 }

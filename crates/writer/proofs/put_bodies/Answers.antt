@@ -10,23 +10,26 @@ use Rattle.writer.proofs.put_bodies.Goals as goal
 pub loop-i-init : goal.loop-i-init
 loop-i-init c =
     let args = c.args in
-    first (formula_of args.f) args.p args.c args.list.now args.out.now args.e
+    first (formula_of args.f) args.p args.c args.pairs.now.bytes.now args.out.now args.pairs.now.count
 
 pub sum-worked-requires : goal.sum-worked-requires
 sum-worked-requires c =
-    let args = c.args in
-    (c.requires.2, ticket-at (formula_of args.f) args.p args.c args.list.now args.out.now args.e c.requires.0 _ c.requires.3 _ c.loop-i-test.true)
+    let args = c.args in (
+      c.requires.1,
+      rw (c.row.ensures.0, c.block.ensures.0) (ticket-at (formula_of args.f) args.p args.c args.pairs.now.bytes.now args.out.now
+          args.pairs.now.count c.args.pairs.now.even _ c.requires.2 _ c.loop-i-test.true),
+    )
 
 pub put_body-requires : goal.put_body-requires
 put_body-requires c = (omega arith, omega arith)
 
 pub loop-i-preserved : goal.loop-i-preserved
 loop-i-preserved c =
-    let args = c.args in next (formula_of args.f) args.p args.c args.list.now args.out.now args.e c.requires.0 _ _ _ _ c.requires.1
-    c.loop-i-test.true (c.sum-worked.ensures.0 ∙ whole_sum _ _ _ _ _) c.loop-i.invariant c.put_body.ensures
+    let args = c.args in next (formula_of args.f) args.p args.c args.pairs.now.bytes.now args.out.now args.pairs.now.count c.args.pairs.now.even _ _ _ _ c.requires.0
+    c.loop-i-test.true (rw (c.row.ensures.0, c.block.ensures.0) at (c.sum-worked.ensures.0 ∙ whole_sum _ _ _ _ _)) c.loop-i.invariant c.put_body.ensures
 
 pub returns : goal.returns
 returns c =
     let args = c.args in
-    let e : c.loop-i.i ≡ args.e = omega arith in
-    last (formula_of args.f) args.p args.c args.list.now args.out.now args.e c.requires.0 _ _ e c.loop-i.invariant
+    let e : c.loop-i.i ≡ args.pairs.now.count = omega arith in
+    last (formula_of args.f) args.p args.c args.pairs.now.bytes.now args.out.now args.pairs.now.count c.args.pairs.now.even _ _ e c.loop-i.invariant

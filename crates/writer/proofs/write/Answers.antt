@@ -10,15 +10,20 @@ put_head-requires c =
     let h = none_applied _ _ _ _ _ _ c.test_write.ensures _ c.in_ok-size.was in
     omega (arith, h.room)
 
+pub invariant_of-pairs : goal.invariant_of-pairs
+invariant_of-pairs c =
+    let h = none_applied _ _ _ _ _ _ c.test_write.ensures _ c.in_ok-size.was in
+    record { even = omega (arith, h.even) }
+
 pub put_contents-requires : goal.put_contents-requires
 put_contents-requires c =
     let h = none_applied _ _ _ _ _ _ c.test_write.ensures _ c.in_ok-size.was in
-    (omega (arith, h.even), omega (arith, h.room))
+    omega (arith, h.room)
 
 pub put_bodies-requires : goal.put_bodies-requires
 put_bodies-requires c =
     let h = none_applied _ _ _ _ _ _ c.test_write.ensures _ c.in_ok-size.was in
-    (omega (arith, h.even), omega (arith, h.room), h.range, h.tickets)
+    (omega (arith, h.room), h.range, h.tickets)
 
 pub returns : goal.returns
 returns c =

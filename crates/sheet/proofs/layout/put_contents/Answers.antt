@@ -31,26 +31,16 @@ module _ (list old : List ℕ) (e : ℕ) (size : length list ≡ 2 * e) where
 
 pub loop-i-init : goal.loop-i-init
 loop-i-init c =
-    first c.args.list.now c.args.out.now c.args.e c.requires.0
-
-pub overflow_cast-list : goal.overflow_cast-list
-overflow_cast-list c = omega (arith, c.type_inv.list (2 * c.loop-i.i + 1))
-
-pub overflow_cast-list-in-loop-i : goal.overflow_cast-list-in-loop-i
-overflow_cast-list-in-loop-i c = omega (arith, c.type_inv.list (2 * c.loop-i.i))
+    first c.args.pairs.now.bytes.now c.args.out.now c.args.pairs.now.count c.args.pairs.now.even
 
 pub put_line-requires : goal.put_line-requires
-put_line-requires c =
-    let i = c.loop-i.i in
-    let row = (c.type_inv.list (2 * i + 1)).fits in
-    let block = (c.type_inv.list (2 * i)).fits in
-    (row, omega (arith, block), omega arith)
+put_line-requires c = (c.row.ensures.1, omega (arith, c.block.ensures.1), omega arith)
 
 pub loop-i-preserved : goal.loop-i-preserved
-loop-i-preserved c = next c.args.list.now c.args.out.now c.args.e c.requires.0 _ _ _ (omega arith) c.loop-i-test.true
-    c.loop-i.invariant c.put_line.ensures
+loop-i-preserved c = next c.args.pairs.now.bytes.now c.args.out.now c.args.pairs.now.count c.args.pairs.now.even _ _ _ (omega arith) c.loop-i-test.true
+    c.loop-i.invariant (rw (c.row.ensures.0, c.block.ensures.0) at c.put_line.ensures)
 
 pub returns : goal.returns
 returns c =
-    let e : c.loop-i.i ≡ c.args.e = omega arith in
-    last c.args.list.now c.args.out.now c.args.e c.requires.0 _ _ e c.loop-i.invariant
+    let e : c.loop-i.i ≡ c.args.pairs.now.count = omega arith in
+    last c.args.pairs.now.bytes.now c.args.out.now c.args.pairs.now.count c.args.pairs.now.even _ _ e c.loop-i.invariant

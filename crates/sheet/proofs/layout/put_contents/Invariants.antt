@@ -13,4 +13,4 @@ abbrev pub Written : List ℕ → List ℕ → List ℕ → ℕ → Type 0
 Written list old out i = (F : Formula) (p C : ℕ) → out ≡ over_to contents_of 4 (listed F p C list) old 16 i
 
 abbrev pub invariant-loop-i : goal.invariant-loop-i
-invariant-loop-i l = Written l.list l.initial.out l.out l.i
+invariant-loop-i l = Written l.pairs.bytes.now l.initial.out l.out l.i

@@ -8,14 +8,14 @@ use Rattle.sheet.proofs.reading.put_list.Goals as goal
 pub loop-i-init : goal.loop-i-init
 loop-i-init c =
     let args = c.args in
-    first args.s.now args.list.now args.e
+    first args.entries.now.bytes.now args.list.now args.entries.now.count
 
 pub loop-i-preserved : goal.loop-i-preserved
 loop-i-preserved c =
-    let args = c.args in next args.s.now args.list.now args.e _ _ _ _ c.loop-i-test.true c.key.ensures c.loop-i.invariant c.put.ensures
+    let args = c.args in next args.entries.now.bytes.now args.list.now args.entries.now.count _ _ _ _ c.loop-i-test.true c.key.ensures c.loop-i.invariant c.put.ensures
 
 pub returns : goal.returns
 returns c =
     let args = c.args in
-    let e : c.loop-i.i ≡ args.e = omega arith in
-    last args.s.now args.list.now args.e _ _ e c.loop-i.invariant
+    let e : c.loop-i.i ≡ args.entries.now.count = omega arith in
+    last args.entries.now.bytes.now args.list.now args.entries.now.count _ _ e c.loop-i.invariant

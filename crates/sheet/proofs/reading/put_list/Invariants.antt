@@ -31,4 +31,4 @@ module _ (s old : List ℕ) (e : ℕ) where
   last l i q el = finish_front lists (entries_from s 0 e) old l i (count_entries s e 0 ∙ sym q) el
 
 abbrev pub invariant-loop-i : goal.invariant-loop-i
-invariant-loop-i l = l.list ≡ listed-to l.s l.initial.list l.e l.i
+invariant-loop-i l = l.list ≡ listed-to l.entries.bytes.now l.initial.list l.entries.count l.i

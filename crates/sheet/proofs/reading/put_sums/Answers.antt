@@ -8,17 +8,17 @@ use Rattle.sheet.proofs.reading.put_sums.Goals as goal
 pub loop-i-init : goal.loop-i-init
 loop-i-init c =
     let args = c.args in
-    first args.s.now args.sums.now args.e
+    first args.entries.now.bytes.now args.sums.now args.entries.now.count
 
 pub body-requires : goal.body-requires
 body-requires c = (omega arith, omega arith)
 
 pub loop-i-preserved : goal.loop-i-preserved
-loop-i-preserved c = next c.args.s.now c.args.sums.now c.args.e _ _ _ _ c.requires.0 c.loop-i-test.true c.body.ensures
+loop-i-preserved c = next c.args.entries.now.bytes.now c.args.sums.now c.args.entries.now.count _ _ _ _ c.requires.0 c.loop-i-test.true c.body.ensures
     c.loop-i.invariant c.put_wide.ensures
 
 pub returns : goal.returns
 returns c =
     let args = c.args in
-    let e : c.loop-i.i ≡ args.e = omega arith in
-    last args.s.now args.sums.now args.e _ _ e c.loop-i.invariant
+    let e : c.loop-i.i ≡ args.entries.now.count = omega arith in
+    last args.entries.now.bytes.now args.sums.now args.entries.now.count _ _ e c.loop-i.invariant

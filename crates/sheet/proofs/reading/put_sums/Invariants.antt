@@ -34,4 +34,4 @@ module _ (s old : List ℕ) (e : ℕ) where
   last l i q el = finish_front bodies (entries_from s 0 e) old l i (count_entries s e 0 ∙ sym q) el
 
 abbrev pub invariant-loop-i : goal.invariant-loop-i
-invariant-loop-i l = l.sums ≡ summed-to l.s l.initial.sums l.e l.i
+invariant-loop-i l = l.sums ≡ summed-to l.entries.bytes.now l.initial.sums l.entries.count l.i

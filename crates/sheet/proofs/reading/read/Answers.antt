@@ -5,10 +5,13 @@ use Rattle.std.proofs.lemmas.Result.{err_from_is_err_and}
 use Rattle.sheet.proofs.ReadTests.{readable, read_done, not_read}
 use Rattle.sheet.proofs.reading.read.Goals as goal
 
-pub put_list-requires : goal.put_list-requires
-put_list-requires c =
+pub invariant_of-entries : goal.invariant_of-entries
+invariant_of-entries c =
     let h = readable _ _ _ _ _ c.test_read.ensures _ c.in_ok-e.was in
-    (omega (arith, h.1), h.2)
+    omega (arith, h.1)
+
+pub put_list-requires : goal.put_list-requires
+put_list-requires c = (readable _ _ _ _ _ c.test_read.ensures _ c.in_ok-e.was).2
 
 pub put_sums-requires : goal.put_sums-requires
 put_sums-requires c =

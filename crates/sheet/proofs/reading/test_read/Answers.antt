@@ -9,8 +9,8 @@ use Rattle.sheet.proofs.reading.test_read.Goals as goal
 pub returns-then-not-sized : goal.returns-then-not-sized
 returns-then-not-sized c = other_size _ _ _ _ _ c.sized.ensures c.if-not-sized.true
 
-pub count-e-requires : goal.count-e-requires
-count-e-requires c = (sheet_fits _ _ (sym c.sized.ensures ∙ c.if-not-sized.false)).0
+pub invariant_of-sheet : goal.invariant_of-sheet
+invariant_of-sheet c = record { head = (sheet_fits _ _ (sym c.sized.ensures ∙ c.if-not-sized.false)).0 }
 
 pub returns-then-list-e : goal.returns-then-list-e
 returns-then-list-e c = list_short _ _ _ _ _ c.sized.ensures _ c.count-e.ensures.0 c.if-list-e.true
@@ -18,10 +18,6 @@ returns-then-list-e c = list_short _ _ _ _ _ c.sized.ensures _ c.count-e.ensures
 pub returns-then-sums-e : goal.returns-then-sums-e
 returns-then-sums-e c =
     sums_short _ _ _ _ _ c.sized.ensures _ c.count-e.ensures.0 c.if-sums-e.true
-
-pub test_sheet-requires : goal.test_sheet-requires
-test_sheet-requires c =
-    (sheet_fits _ _ (sym c.sized.ensures ∙ c.if-not-sized.false)).0
 
 pub returns : goal.returns
 returns c =

@@ -1,4 +1,4 @@
--- `sheet::contents::all_tickets` meets its contract: at each turn every entry passed is a ticket.
+-- `sheet::contents::Entries::all_tickets` meets its contract: at each turn every entry passed is a ticket.
 -- Assumes nothing.
 use mathlib.Core.Path.{◌≡◌, sym, ◌∙◌}
 use mathlib.Core.Bool.{Bool, true, false}
@@ -10,8 +10,8 @@ use Rattle.algebra.proofs.Below.{below_none, below_next, below_false}
 use Rattle.run.specs.Run.{Limits, is_ticket}
 use Rattle.sheet.specs.Sheet.{row_in, block_in, entries_from, all_tickets}
 use Rattle.sheet.proofs.Each.{every_entries}
-use Rattle.sheet.proofs.contents.all_tickets.Invariants.{ticketAt}
-use Rattle.sheet.proofs.contents.all_tickets.Goals as goal
+use Rattle.sheet.proofs.contents.Entries.all_tickets.Invariants.{ticketAt}
+use Rattle.sheet.proofs.contents.Entries.all_tickets.Goals as goal
 
 module _ (lim : Limits) (C : ℕ) (s : List ℕ) (i row block : ℕ) (b : Bool) (tested : b ≡ is_ticket lim C row block)
     (er : row ≡ row_in s i) (eb : block ≡ block_in s i) where
@@ -38,5 +38,5 @@ loop-i-preserved c = next _ _ _ _ _ _ _ c.is_ticket.ensures c.row.ensures.0 c.bl
 
 pub returns : goal.returns
 returns c =
-    let e : c.loop-i.i ≡ c.args.e = omega arith in
+    let e : c.loop-i.i ≡ c.args.self.now.count = omega arith in
     sym (every_entries _ _ _ ∙ rw e at c.loop-i.invariant)

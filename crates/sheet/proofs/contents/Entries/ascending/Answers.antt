@@ -1,4 +1,4 @@
--- `sheet::contents::ascending` meets its contract: at each turn every entry passed is below the next.
+-- `sheet::contents::Entries::ascending` meets its contract: at each turn every entry passed is below the next.
 -- Assumes nothing.
 use mathlib.Core.Path.{◌≡◌, ap, ◌∙◌}
 use mathlib.Core.Bool.{true, false}
@@ -10,7 +10,7 @@ use Rattle.algebra.specs.Test.{all_below}
 use Rattle.algebra.proofs.Below.{below_none, below_next}
 use Rattle.sheet.specs.Sheet.{key, entries_from, ascending}
 use Rattle.sheet.proofs.Each.{entry, rises, ascends, falls}
-use Rattle.sheet.proofs.contents.ascending.Goals as goal
+use Rattle.sheet.proofs.contents.Entries.ascending.Goals as goal
 
 -- a turn, with the keys as the code has them
 next : (s : List ℕ) (i k l : ℕ) → 1 ≤ i → k ≡ key (entry s i) → l ≡ key (entry s (i - 1)) → l < k → all_below (i - 1) (rises s) ≡ true

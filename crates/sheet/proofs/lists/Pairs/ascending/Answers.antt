@@ -1,4 +1,4 @@
--- `sheet::lists::ascending` meets its contract: at each turn every pair passed is below the next.
+-- `sheet::lists::Pairs::ascending` meets its contract: at each turn every pair passed is below the next.
 -- Assumes nothing.
 use mathlib.Core.Path.{◌≡◌, ap, ◌∙◌}
 use mathlib.Core.Bool.{true}
@@ -10,7 +10,7 @@ use Rattle.algebra.specs.Test.{all_below}
 use Rattle.algebra.proofs.Below.{below_none, below_next}
 use Rattle.words.specs.Bytes.{field}
 use Rattle.sheet.proofs.Each.{pair_rises, pairs_ascend, pairs_fall}
-use Rattle.sheet.proofs.lists.ascending.Goals as goal
+use Rattle.sheet.proofs.lists.Pairs.ascending.Goals as goal
 
 -- a turn, with the pairs as the code has them
 next : (list : List ℕ) (i k l : ℕ) → 1 ≤ i → k ≡ field list (2 * i) 2 → l ≡ field list (2 * (i - 1)) 2 → l < k
@@ -30,13 +30,13 @@ not_above list i k l h ek el u =
 pub loop-i-init : goal.loop-i-init
 loop-i-init c = below_none _
 
-pub returns-then-get : goal.returns-then-get
-returns-then-get c = λ F p C.
-    pairs_fall _ _ c.requires F p C (c.loop-i.i - 1) (omega (arith, c.loop-i.auto.i))
-    (not_above _ _ _ _ c.loop-i.auto.i c.get.ensures c.get-in-loop-i.ensures c.if-get.true)
+pub returns-then-key : goal.returns-then-key
+returns-then-key c = λ F p C.
+    pairs_fall _ _ c.args.self.now.even F p C (c.loop-i.i - 1) (omega (arith, c.loop-i.auto.i))
+    (not_above _ _ _ _ c.loop-i.auto.i c.key.ensures c.key-in-loop-i.ensures c.if-key.true)
 
 pub loop-i-preserved : goal.loop-i-preserved
-loop-i-preserved c = next _ _ _ _ c.loop-i.auto.i c.get.ensures c.get-in-loop-i.ensures c.if-get.false c.loop-i.invariant
+loop-i-preserved c = next _ _ _ _ c.loop-i.auto.i c.key.ensures c.key-in-loop-i.ensures c.if-key.false c.loop-i.invariant
 
 pub returns : goal.returns
-returns c = λ F p C. pairs_ascend _ _ c.requires F p C (c.loop-i.i - 1) (omega arith) c.loop-i.invariant
+returns c = λ F p C. pairs_ascend _ _ c.args.self.now.even F p C (c.loop-i.i - 1) (omega arith) c.loop-i.invariant
