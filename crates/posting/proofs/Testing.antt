@@ -12,14 +12,13 @@ use Rattle.words.specs.Bytes.{field}
 use Rattle.run.specs.Refusal.{Test, refusal, tested}
 use Rattle.run.specs.Run.{Entry, Limits, in_range, is_ticket}
 use Rattle.run.specs.Tests.{of_sizes}
-use Rattle.run.specs.Answers.{answer_of}
+use Rattle.std.specs.Prelude.{Ok, Err, ⊤}
+use Rattle.run.specs.Answers.{answer_of, Verdict, verdict_of}
 use Rattle.run.specs.declared.Refusal.{Refusal}
-use Rattle.run.specs.declared.Answer.{Answer}
-use Rattle.run.specs.declared.Answer.TheVariants.{Finished, Refused}
 use Rattle.run.proofs.Range.{range_of, ticket_row, ticket_block, is_ticket_lem}
 use Rattle.run.specs.Call.{Call, answered, refused_by, Does}
 use Rattle.run.proofs.Testing.{Left, here, past, none_left, part_here, part_past, part_passes, passed}
-use Rattle.run.proofs.Calls.{finishes, was_worked, turned_down}
+use Rattle.run.proofs.Calls.{finishes, was_passed, turned_back}
 use Rattle.sheet.specs.Sheet.{sheet_pos, sheet_blocks, sheet_count, entries_from, entries, every, all_tickets}
 use Rattle.sheet.specs.Tests.{sheet_sized, of_sheet}
 use Rattle.sheet.proofs.Form.{formed, formed_length, SheetPassed, sheet_passed}
@@ -125,29 +124,29 @@ module _ {lim : Limits} {v : View} {ledger s : List ℕ} {call : Call} (posts : 
     pub sheet_size : b ≡ false → negsuc 0 ≡ answered call
     sheet_size f = here from_sizes (right_fails v.sized _ (sym sheet_sized_lem ∙ f))
 
-    module _ (sized : v.sized ≡ true) (t : b ≡ true) (a : Answer) (ea : answer_of a ≡ tested (of_sheet lim s)) where
+    module _ (sized : v.sized ≡ true) (t : b ≡ true) (a : Verdict) (ea : verdict_of a ≡ tested (of_sheet lim s)) where
       from_sheet : Left call (of_sheet lim s ++ of_ledger_on)
       from_sheet = past from_sizes (and_both v.sized _ sized (sym sheet_sized_lem ∙ t))
 
-      pub other_sheet : (r : Refusal) → a ≡ Refused r → answer_of (Refused r) ≡ answered call
+      pub other_sheet : (r : Refusal) → a ≡ Err r → answer_of (Err r) ≡ answered call
       other_sheet = part_here _ a ea of_ledger_on from_sheet
 
-      module _ (w : ℕ) (f : a ≡ Finished w) (p C : ℕ) (ep : p ≡ field s 0 8) (eC : C ≡ field s 8 2)
-          (c : Answer) (ec : answer_of c ≡ tested (of_ledger v p C)) where
+      module _ (w : ⊤) (f : a ≡ Ok w) (p C : ℕ) (ep : p ≡ field s 0 8) (eC : C ≡ field s 8 2)
+          (c : Verdict) (ec : verdict_of c ≡ tested (of_ledger v p C)) where
         form : SheetPassed lim s
         form = (sheet_passed lim s [] (part_passes _ a ea w f)).0
 
         from_ledger : Left call of_ledger_on
         from_ledger = part_past _ a ea of_ledger_on from_sheet refl w f
 
-        made : answer_of c ≡ tested (of_ledger v (sheet_pos s) (sheet_blocks s))
+        made : verdict_of c ≡ tested (of_ledger v (sheet_pos s) (sheet_blocks s))
         unfolding sheet_pos sheet_blocks
         made = ec ∙ ap₂ (λ (x y : ℕ). tested (of_ledger v x y)) ep eC
 
-        pub other_ledger : (r : Refusal) → c ≡ Refused r → answer_of (Refused r) ≡ answered call
+        pub other_ledger : (r : Refusal) → c ≡ Err r → answer_of (Err r) ≡ answered call
         other_ledger = part_here _ c made of_new from_ledger
 
-        module _ (u : ℕ) (g : c ≡ Finished u) (e : ℕ) (counted : e ≡ sheet_count s) where
+        module _ (u : ⊤) (g : c ≡ Ok u) (e : ℕ) (counted : e ≡ sheet_count s) where
           run : sheet_blocks s ≡ v.C
           run = (ledger_passed v (sheet_pos s) (sheet_blocks s) [] (part_passes _ c made u g)).2
 
@@ -180,19 +179,19 @@ alone lim ledger s = record { shows = own_view lim ledger; all_tests = record { 
 
 -- ---- after the tests, by what they answered
 
-module _ (lim : Limits) (ledger s : List ℕ) (a : Answer) (made : answer_of a ≡ answered (sheet_post_call lim ledger s)) where
-  pub none_applied : (v : ℕ) → a ≡ Finished v → AllEnterable lim ledger s
+module _ (lim : Limits) (ledger s : List ℕ) (a : Verdict) (made : verdict_of a ≡ answered (sheet_post_call lim ledger s)) where
+  pub none_applied : (v : ⊤) → a ≡ Ok v → AllEnterable lim ledger s
   unfolding sheet_post_call refused_by
   none_applied v f =
-      may_enter_all lim (view_of lim ledger) ledger s (own_view lim ledger) (sheet_taken lim (view_of lim ledger) s (was_worked _ a made v f).0)
+      may_enter_all lim (view_of lim ledger) ledger s (own_view lim ledger) (sheet_taken lim (view_of lim ledger) s (was_passed _ a made v f))
 
-  pub posted : (v : ℕ) (t : List ℕ) → a ≡ Finished v → t ≡ foldl (enter_entry lim) ledger (entries s)
+  pub posted : (v : ⊤) (t : List ℕ) → a ≡ Ok v → t ≡ foldl (enter_entry lim) ledger (entries s)
       → Does (sheet_post_call lim ledger s) (pos 0) (t ∷ [])
   unfolding sheet_post_call
   posted v t f et =
-      let d = finishes (sheet_post_call lim ledger s) (was_worked _ a made v f).0 in
+      let d = finishes (sheet_post_call lim ledger s) (was_passed _ a made v f) in
       (d.0, ap (λ (b : List ℕ). b ∷ []) et ∙ d.1)
 
-  pub not_posted : (r : Refusal) → a ≡ Refused r → Does (sheet_post_call lim ledger s) (answer_of (Refused r)) (ledger ∷ [])
+  pub not_posted : (r : Refusal) → a ≡ Err r → Does (sheet_post_call lim ledger s) (answer_of (Err r)) (ledger ∷ [])
   unfolding sheet_post_call
-  not_posted r f = turned_down (sheet_post_call lim ledger s) a made r f
+  not_posted r f = turned_back (sheet_post_call lim ledger s) a made r f

@@ -2,7 +2,6 @@
 -- and no later one is marked.
 -- Assumes nothing.
 use mathlib.Core.Path.{◌≡◌}
-use Prim.Native.Nat.{◌-◌, ◌≤◌}
 use lib.ListN.{length}
 use Rattle.series.specs.Names.{formula_of}
 use Rattle.run.specs.Run.{limits_of}
@@ -12,7 +11,5 @@ use Rattle.posting.proofs.enter_all.Given as goal
 
 abbrev pub invariant-loop-i : goal.invariant-loop-i
 invariant-loop-i l =
-    (l.i ≤ l.e) × (length l.ledger ≡ length l.initial.ledger) × (length l.sums ≡ 7) × Entered (limits_of (formula_of l.f)) l.s l.initial.ledger l.e l.ledger (value_at l.sums) l.i
-
-abbrev pub decreases-loop-i : goal.decreases-loop-i
-decreases-loop-i l = l.e - l.i
+    (length l.sums ≡ 7)
+    × Entered (limits_of (formula_of l.f)) l.s l.initial.ledger l.count l.ledger (value_at l.sums) l.i

@@ -8,11 +8,11 @@ use Rattle.posting.proofs.Admitting.{mark_inside, one_marked, one_more}
 use Rattle.posting.proofs.none_marked.Goals as goal
 
 pub loop-i-init : goal.loop-i-init
-loop-i-init c = (omega arith, below_none _)
+loop-i-init c = below_none _
 
 pub bit_set-requires : goal.bit_set-requires
 bit_set-requires c =
-    mark_inside _ c.args.ledger.now c.args.s.now _ _ _ c.row.ensures.0 c.block.ensures.0 _ c.requires.1 c.requires.2 c.loop-i-test.true
+    mark_inside _ c.args.ledger.now.bytes.now c.args.entries.now.bytes.now _ _ _ c.row.ensures.0 c.block.ensures.0 _ c.args.ledger.now.sized c.requires c.loop-i-test.true
 
 pub returns-then-bit_set : goal.returns-then-bit_set
 returns-then-bit_set c =
@@ -20,13 +20,10 @@ returns-then-bit_set c =
     c.loop-i-test.true c.if-bit_set.true
 
 pub loop-i-preserved : goal.loop-i-preserved
-loop-i-preserved c = (
-  omega arith,
-  one_more _ _ _ _ _ _ c.row.ensures.0 c.block.ensures.0 _ c.bit_set.ensures c.if-bit_set.false
-      c.loop-i.invariant.1,
-)
+loop-i-preserved c = one_more _ _ _ _ _ _ c.row.ensures.0 c.block.ensures.0 _ c.bit_set.ensures c.if-bit_set.false
+    c.loop-i.invariant
 
 pub returns : goal.returns
 returns c =
-    let e : c.loop-i.i ≡ c.args.e = omega arith in
-    sym (every_entries _ _ _ ∙ rw e at c.loop-i.invariant.1)
+    let e : c.loop-i.i ≡ c.args.entries.now.count = omega arith in
+    sym (every_entries _ _ _ ∙ rw e at c.loop-i.invariant)
