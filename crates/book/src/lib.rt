@@ -9,13 +9,14 @@ ghost use Rattle.series.specs.Names.{formula_of};
 ghost use Rattle.series.specs.Series.{row_count, modulus};
 ghost use Rattle.run.specs.Refusal.{tested};
 ghost use Rattle.run.specs.Run.{limits_of};
-ghost use Rattle.run.specs.Answers.{answer_of};
+ghost use Rattle.run.specs.Answers.{verdict_of};
 ghost use Rattle.ledger.specs.Ledger.{ledger_size, mark_at, bit_in};
 ghost use Rattle.ledger.specs.Calls.{of_ledger};
 ghost use Rattle.book.specs.Book.{book_size, kept_at, kept_in, adds_up, zero_elsewhere, in_order_with, view_with, unmark, Removable};
 ghost use Rattle.book.specs.Book as definition;
 
-use run::{Answer, Refusal};
+use ledger::Ledger;
+use run::Refusal;
 use series::Series;
 use words::Wide;
 
@@ -48,76 +49,75 @@ pub fn row_total(book: &[u8], row: usize) -> Wide
     ensures { joined result.hi result.lo ≡ sum (kept_in book.now row) 0 256 % modulus }
 {
     let mut total = Wide { hi: 0, lo: 0 };
-    let mut block = 0;
-    while block < 256 {
+    for block in 0..256 {
         total = words::add(total, kept(book, row, block));
-        block += 1;
     }
     total
 }
 
 // Whether every place of a row is zero whose bit is not set, up to the last of the 256.
-pub fn zero_elsewhere(f: Series, ledger: &[u8], book: &[u8], row: usize) -> bool
-    requires { (length ledger.now ≡ ledger_size (limits_of (formula_of f))) × (4096 * row + 4096 ≤ length book.now) × (row < row_count (formula_of f)) }
-    ensures { result ≡ zero_elsewhere (limits_of (formula_of f)) ledger.now book.now row }
+pub fn zero_elsewhere(ledger: &Ledger, book: &[u8], row: usize) -> bool
+    requires { (4096 * row + 4096 ≤ length book.now) × (row < row_count (formula_of ledger.now.f)) }
+    ensures { result ≡ zero_elsewhere (limits_of (formula_of ledger.now.f)) ledger.now.bytes.now book.now row }
 {
     let zero = Wide { hi: 0, lo: 0 };
-    let mut block = 0;
-    while block < 256 {
-        if !ledger::marks::bit_set(f, ledger, row, block) {
-            if !words::is_equal(kept(book, row, block), zero) {
+    for block in 0..256 {
+        if !ledger.bit_set(row, block) && !words::is_equal(kept(book, row, block), zero) {
+            return false;
+        }
+    }
+    true
+}
+
+// A ledger with the bytes of a book beside it, as many as one of its formula has.
+#[derive(Clone, Copy)]
+pub struct Books<'a> {
+    pub ledger: Ledger<'a>,
+    pub book: &'a [u8],
+    ghost sized: { length book.now ≡ book_size (limits_of (formula_of ledger.f)) },
+}
+
+impl<'a> Books<'a> {
+    // Whether in every row the kept sums add up to the row's sum, and places without a mark are zero.
+    pub fn rows_agree(&self) -> bool
+        ensures { result ≡ all_below (row_count (formula_of self.now.ledger.f)) (λ row. adds_up self.now.ledger.bytes.now self.now.book.now row
+            && zero_elsewhere (limits_of (formula_of self.now.ledger.f)) self.now.ledger.bytes.now self.now.book.now row) }
+    {
+        let rows = series::formula::row_count(self.ledger.f);
+        let sums = self.ledger.sums();
+        for row in 0..rows {
+            if !words::is_equal(row_total(self.book, row), sums[row]) {
+                return false;
+            }
+            if !zero_elsewhere(&self.ledger, self.book, row) {
                 return false;
             }
         }
-        block += 1;
+        true
     }
-    true
-}
 
-// Whether in every row the kept sums add up to the row's sum, and places without a mark are zero.
-pub fn rows_agree(f: Series, ledger: &[u8], book: &[u8]) -> bool
-    requires { (length ledger.now ≡ ledger_size (limits_of (formula_of f))) × (length book.now ≡ book_size (limits_of (formula_of f))) }
-    ensures { result ≡ all_below (row_count (formula_of f)) (λ row. adds_up ledger.now book.now row
-        && zero_elsewhere (limits_of (formula_of f)) ledger.now book.now row) }
-{
-    let rows = series::formula::row_count(f);
-    let sums = ledger::sums::get(f, ledger);
-    let mut row = 0;
-    while row < rows {
-        if !words::is_equal(row_total(book, row), sums[row]) {
-            return false;
+    // Whether both are in order together.
+    #[tactic(auto, unfolding(crate::specs::Book::in_order_with))]
+    pub fn in_order(&self) -> bool
+        ensures { result ≡ in_order_with (limits_of (formula_of self.now.ledger.f)) self.now.ledger.bytes.now self.now.book.now }
+    {
+        self.ledger.in_order() && self.rows_agree()
+    }
+
+    // What the refusal table says of both, and of the run p, c that a call names.
+    #[tactic(auto, unfolding(run::specs::Refusal::refusal, run::specs::Refusal::answer, crate::specs::Book::view_with))]
+    pub fn test_book(&self, p: u64, c: u64) -> Result<(), Refusal>
+        ensures { verdict_of result
+            ≡ tested (of_ledger (view_with (limits_of (formula_of self.now.ledger.f)) self.now.ledger.bytes.now self.now.book.now) p c) }
+    {
+        if !self.in_order() {
+            return Err(Refusal::OutOfOrder);
         }
-        if !zero_elsewhere(f, ledger, book, row) {
-            return false;
+        if !self.ledger.same_run(p, c) {
+            return Err(Refusal::OtherRun);
         }
-        row += 1;
+        Ok(())
     }
-    true
-}
-
-// Whether a ledger and a book are in order together.
-pub fn in_order(f: Series, ledger: &[u8], book: &[u8]) -> bool
-    requires { (length ledger.now ≡ ledger_size (limits_of (formula_of f))) × (length book.now ≡ book_size (limits_of (formula_of f))) }
-    ensures { result ≡ in_order_with (limits_of (formula_of f)) ledger.now book.now }
-{
-    if !ledger::in_order(f, ledger) {
-        return false;
-    }
-    rows_agree(f, ledger, book)
-}
-
-// What the refusal table says of a ledger and a book that have their sizes, and of the run p, c that a call names.
-pub fn test_book(f: Series, ledger: &[u8], book: &[u8], p: u64, c: u64) -> Answer
-    requires { (length ledger.now ≡ ledger_size (limits_of (formula_of f))) × (length book.now ≡ book_size (limits_of (formula_of f))) }
-    ensures { answer_of result ≡ tested (of_ledger (view_with (limits_of (formula_of f)) ledger.now book.now) p c) }
-{
-    if !in_order(f, ledger, book) {
-        return Answer::Refused(Refusal::OutOfOrder);
-    }
-    if !ledger::same_run(ledger, p, c) {
-        return Answer::Refused(Refusal::OtherRun);
-    }
-    Answer::Finished(0)
 }
 
 // Clears the bit of a row and block.
@@ -137,7 +137,7 @@ pub fn remove(f: Series, ledger: &mut [u8], row: usize, block: usize, x: Wide)
     requires { Removable (limits_of (formula_of f)) ledger.old row block }
     ensures { ledger.new ≡ definition.remove (limits_of (formula_of f)) ledger.old row block (joined x.hi x.lo) }
 {
-    let mut sums = ledger::sums::get(f, ledger);
+    let mut sums = Ledger { f, bytes: ledger }.sums();
     sums[row] = words::sub(sums[row], x);
     clear_bit(f, ledger, row, block);
     ledger::sums::put(f, ledger, sums);

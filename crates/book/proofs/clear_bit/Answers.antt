@@ -30,8 +30,8 @@ module _ (lim : Limits) (s : List ℕ) (start row block : ℕ) (at-marks : start
 
 pub overflow_sub-byte : goal.overflow_sub-byte
 overflow_sub-byte c =
-    let h = fits _ _ _ _ c.args.block c.start.ensures (c.slice_known-2-1.given _).fits c.requires.1 in
+    let h = fits _ _ _ _ c.args.block c.start.ensures (search rules) c.requires.1 in
     search (rules, h)
 
 pub returns : goal.returns
-returns c = law _ _ _ _ _ c.start.ensures (c.slice_known-2-1.given _).fits c.requires.1
+returns c = law _ _ _ _ _ c.start.ensures (search rules) c.requires.1

@@ -42,11 +42,11 @@ pub returns : goal.returns
 unfolding AllBytes value_at
 returns c =
     let size : marks_at (limits_of (formula_of c.args.f)) ≤ length c.args.ledger.now = omega (arith, c.requires.sized) in
-    let seven : length c.get-sums.result ≡ 7 = search rules in
+    let seven : length c.sums-sums.result ≡ 7 = search rules in
     let small : c.args.row < 7 = (omega (arith, few_rows c.args.f, c.requires.row_in)) in
     let fits = c.sub.type_inv.1.1 in
     let bytes : AllBytes c.args.ledger.now = search rules in
-    removed _ c.args.ledger.now _ _ _ _ _ (value_at c.get-sums.result) _ size bytes c.requires.row_in
-    c.get-sums.ensures
-    (one_taken c.get-sums.result _ _ _ (omega (arith, small, seven)) (joined_lt _ _ fits.0.1 fits.1.0.1) c.sub.ensures)
+    removed _ c.args.ledger.now _ _ _ _ _ (value_at c.sums-sums.result) _ size bytes c.requires.row_in
+    c.sums-sums.ensures
+    (one_taken c.sums-sums.result _ _ _ (omega (arith, small, seven)) (joined_lt _ _ fits.0.1 fits.1.0.1) c.sub.ensures)
     c.clear_bit.ensures c.put.ensures

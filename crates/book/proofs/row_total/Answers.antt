@@ -13,17 +13,14 @@ use Rattle.book.specs.Book.{kept_in}
 use Rattle.book.proofs.row_total.Goals as goal
 
 pub loop-block-init : goal.loop-block-init
-loop-block-init c = (omega arith, none_totalled _)
+loop-block-init c = none_totalled _
 
 pub loop-block-preserved : goal.loop-block-preserved
 loop-block-preserved c =
-    let total = c.loop-block.total in (
-      omega arith,
-      total_next modulus (kept_in c.args.book.now c.args.row) 0 _ _ _ c.loop-block.invariant.1
-          (c.add-total.ensures ∙ ap (λ (k : ℕ). (joined total.hi total.lo + k) % modulus) c.kept.ensures),
-    )
+    let total = c.loop-block.total in total_next modulus (kept_in c.args.book.now c.args.row) 0 _ _ _ c.loop-block.invariant
+    (c.add-total.ensures ∙ ap (λ (k : ℕ). (joined total.hi total.lo + k) % modulus) c.kept.ensures)
 
 pub returns : goal.returns
 returns c =
     let e : c.loop-block.block ≡ 256 = omega arith in
-    rw (e, zero-add (sum (kept_in c.args.book.now c.args.row) 0 256)) at c.loop-block.invariant.1
+    rw (e, zero-add (sum (kept_in c.args.book.now c.args.row) 0 256)) at c.loop-block.invariant

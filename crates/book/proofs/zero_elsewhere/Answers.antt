@@ -6,10 +6,10 @@ use Rattle.algebra.proofs.Below.{below_none}
 use Rattle.book.specs.Book.{zero_elsewhere}
 use Rattle.book.proofs.Rows.{bit_next, zero_next, not_zero}
 use Rattle.book.proofs.zero_elsewhere.Goals as goal
-use Rattle.book.proofs.zero_elsewhere.Goals.{then-not-bit_set+else-not-is_equal, else-not-bit_set}
+use Rattle.book.proofs.zero_elsewhere.Goals.{else-not-bit_set-via-then-not-bit_set+else-not-is_equal, else-not-bit_set-via-else-not-bit_set}
 
 pub loop-block-init : goal.loop-block-init
-loop-block-init c = (omega arith, below_none _)
+loop-block-init c = below_none _
 
 pub returns-then-not-is_equal : goal.returns-then-not-is_equal
 returns-then-not-is_equal c =
@@ -18,17 +18,16 @@ returns-then-not-is_equal c =
 
 pub loop-block-preserved : goal.loop-block-preserved
 loop-block-preserved c =
-    let so_far = c.loop-block.invariant.1 in (
-      omega arith,
-      elim c.if-not-bit_set.branch [
-        | then-not-bit_set+else-not-is_equal w ↦
-            zero_next _ _ _ _ _ _ c.bit_set.ensures w.if-not-bit_set.true _ w.kept.ensures _ w.is_equal.ensures w.if-not-is_equal.false so_far
-        | else-not-bit_set w ↦ bit_next _ _ _ _ _ _ c.bit_set.ensures w.if-not-bit_set.false so_far
-      ],
-    )
+    elim c.else-not-bit_set.branch [
+      | else-not-bit_set-via-then-not-bit_set+else-not-is_equal w ↦
+          zero_next _ _ _ _ _ _ c.bit_set.ensures w.if-not-bit_set.true _ w.kept.ensures _ w.is_equal.ensures w.if-not-is_equal.false
+          c.loop-block.invariant
+      | else-not-bit_set-via-else-not-bit_set w ↦
+          bit_next _ _ _ _ _ _ c.bit_set.ensures w.if-not-bit_set.false c.loop-block.invariant
+    ]
 
 pub returns : goal.returns
 unfolding zero_elsewhere
 returns c =
     let e : c.loop-block.block ≡ 256 = omega arith in
-    sym (rw e at c.loop-block.invariant.1)
+    sym (rw e at c.loop-block.invariant)
