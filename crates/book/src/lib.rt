@@ -71,13 +71,13 @@ pub fn zero_elsewhere(ledger: &Ledger, book: &[u8], row: usize) -> bool
 
 // A ledger with the bytes of a book beside it, as many as one of its formula has.
 #[derive(Clone, Copy)]
-pub struct Books<'a> {
+pub struct Books<'a, 'b> {
     pub ledger: Ledger<'a>,
-    pub book: &'a [u8],
+    pub book: &'b [u8],
     ghost sized: { length book.now ≡ book_size (limits_of (formula_of ledger.f)) },
 }
 
-impl<'a> Books<'a> {
+impl<'a, 'b> Books<'a, 'b> {
     // Whether in every row the kept sums add up to the row's sum, and places without a mark are zero.
     pub fn rows_agree(&self) -> bool
         ensures { result ≡ all_below (row_count (formula_of self.now.ledger.f)) (λ row. adds_up self.now.ledger.bytes.now self.now.book.now row

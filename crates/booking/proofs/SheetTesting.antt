@@ -8,12 +8,11 @@ use lib.IntN.{pos}
 use lib.ListN.{length}
 use Rattle.words.specs.Bytes.{field}
 use Rattle.run.specs.Run.{Limits}
-use Rattle.run.specs.Answers.{answer_of}
+use Rattle.std.specs.Prelude.{Ok, Err, ⊤}
+use Rattle.run.specs.Answers.{answer_of, Verdict, verdict_of}
 use Rattle.run.specs.declared.Refusal.{Refusal}
-use Rattle.run.specs.declared.Answer.{Answer}
-use Rattle.run.specs.declared.Answer.TheVariants.{Finished, Refused}
 use Rattle.run.specs.Call.{refused_by, answered, Does}
-use Rattle.run.proofs.Calls.{finishes, was_worked, turned_down}
+use Rattle.run.proofs.Calls.{finishes, was_passed, turned_back}
 use Rattle.sheet.specs.Sheet.{sheet_count, row_in, block_in, sum_in, entries_from, entries, all_tickets}
 use Rattle.sheet.proofs.Each.{entry, entries_next}
 use Rattle.posting.specs.Calls.{enter_entry, AllEnterable}
@@ -47,26 +46,26 @@ module _ (lim : Limits) (s first : List ℕ) (e : ℕ) (counted : e ≡ sheet_co
 
 -- ---- after the tests, by what they answered
 
-module _ (lim : Limits) (ledger book s : List ℕ) (a : Answer) (made : answer_of a ≡ answered (book_sheet_post_call lim ledger book s)) where
-  known : (w : ℕ) → a ≡ Finished w → SheetTaken lim (view_with lim ledger book) s
+module _ (lim : Limits) (ledger book s : List ℕ) (a : Verdict) (made : verdict_of a ≡ answered (book_sheet_post_call lim ledger book s)) where
+  known : (w : ⊤) → a ≡ Ok w → SheetTaken lim (view_with lim ledger book) s
   unfolding book_sheet_post_call refused_by
-  known w f = sheet_taken lim (view_with lim ledger book) s (was_worked _ a made w f).0
+  known w f = sheet_taken lim (view_with lim ledger book) s (was_passed _ a made w f)
 
-  pub sheet_enterable : (w : ℕ) → a ≡ Finished w → AllEnterable lim ledger s
+  pub sheet_enterable : (w : ⊤) → a ≡ Ok w → AllEnterable lim ledger s
   sheet_enterable w f = may_enter_all lim (view_with lim ledger book) ledger s (with_book lim ledger book) (known w f)
 
-  pub sheet_keepable : (w : ℕ) → a ≡ Finished w → AllKeepable lim book s
+  pub sheet_keepable : (w : ⊤) → a ≡ Ok w → AllKeepable lim book s
   sheet_keepable w f =
       let e = sheet_enterable w f in
       record { whole = e.whole; sized = book_sized lim ledger book (known w f).sized; placed = e.placed }
 
-  pub sheet_posted : (w : ℕ) (t u : List ℕ) → a ≡ Finished w → t ≡ foldl (enter_entry lim) ledger (entries s) → u ≡ foldl keep_entry book (entries s)
+  pub sheet_posted : (w : ⊤) (t u : List ℕ) → a ≡ Ok w → t ≡ foldl (enter_entry lim) ledger (entries s) → u ≡ foldl keep_entry book (entries s)
       → Does (book_sheet_post_call lim ledger book s) (pos 0) (t ∷ u ∷ [])
   unfolding book_sheet_post_call
   sheet_posted w t u f et eu =
-      let d = finishes (book_sheet_post_call lim ledger book s) (was_worked _ a made w f).0 in
+      let d = finishes (book_sheet_post_call lim ledger book s) (was_passed _ a made w f) in
       (d.0, ap₂ (λ (b c : List ℕ). b ∷ c ∷ []) et eu ∙ d.1)
 
-  pub sheet_not_posted : (r : Refusal) → a ≡ Refused r → Does (book_sheet_post_call lim ledger book s) (answer_of (Refused r)) (ledger ∷ book ∷ [])
+  pub sheet_not_posted : (r : Refusal) → a ≡ Err r → Does (book_sheet_post_call lim ledger book s) (answer_of (Err r)) (ledger ∷ book ∷ [])
   unfolding book_sheet_post_call
-  sheet_not_posted r f = turned_down (book_sheet_post_call lim ledger book s) a made r f
+  sheet_not_posted r f = turned_back (book_sheet_post_call lim ledger book s) a made r f

@@ -5,7 +5,7 @@ use mathlib.Core.Bool.{Bool, true, false, not, ◌&&◌}
 use mathlib.Core.List.{List, [], ◌∷◌, ◌++◌}
 use Prim.Native.Nat.{ℕ, suc, ◌+◌, ◌≤◌, ◌<◌}
 use native.Mathlib.Omega.{arith}
-use borrow.Author.Tests.{eq-eqb, ne_eqb, not-false}
+use borrow.Author.Tests.{eq-eqb, ne_eqb}
 use lib.Dec.{eqb}
 use lib.IntN.{pos, negsuc}
 use lib.ListN.{length}
@@ -16,13 +16,12 @@ use Rattle.words.proofs.Joined.{joined_zero}
 use Rattle.run.specs.Refusal.{Test, ◌unless◌, refusal, answer, tested}
 use Rattle.run.specs.Run.{Limits, in_range, is_ticket}
 use Rattle.run.specs.Tests.{of_sizes, of_ticket}
-use Rattle.run.specs.Answers.{answer_of}
+use Rattle.std.specs.Prelude.{Ok, Err, ⊤}
+use Rattle.run.specs.Answers.{answer_of, Verdict, verdict_of}
 use Rattle.run.specs.declared.Refusal.{Refusal}
-use Rattle.run.specs.declared.Answer.{Answer}
-use Rattle.run.specs.declared.Answer.TheVariants.{Finished, Refused}
 use Rattle.run.specs.Call.{Call, refused_by, answered, Does}
 use Rattle.run.proofs.Testing.{Left, here, past, none_left, part_here, part_past, part_passes, passed, ticket_passed}
-use Rattle.run.proofs.Calls.{finishes, was_worked, turned_down}
+use Rattle.run.proofs.Calls.{finishes, was_passed, turned_back}
 use Rattle.ledger.specs.Ledger.{View, mark_at, bit_in, mark_in, enter, Enterable}
 use Rattle.ledger.specs.Calls.{of_ledger, of_marks, post_tests}
 use Rattle.ledger.proofs.Posting.{Shows, Place, place, ledger_passed, PostTaken, post_taken, may_enter, sum_read}
@@ -37,8 +36,8 @@ unfolding view_with
 with_book lim ledger book = record { size = ledger_sized lim ledger book; blocks = refl; marks = λ row block. refl }
 
 -- where a function that compared the sizes answered that they are right
-pub right_size : (lim : Limits) (ledger book : List ℕ) (b : Bool) → b ≡ (view_with lim ledger book).sized → not b ≡ false → (view_with lim ledger book).sized ≡ true
-right_size lim ledger book b e f = sym e ∙ not-false b f
+pub right_size : (lim : Limits) (ledger book : List ℕ) (b : Bool) → b ≡ (view_with lim ledger book).sized → b ≡ true → (view_with lim ledger book).sized ≡ true
+right_size lim ledger book b e f = sym e ∙ f
 
 -- a ticket's place in the book
 pub keepable : (lim : Limits) (book : List ℕ) (row block : ℕ) → length book ≡ book_size lim → row < lim.rows → block < 256
@@ -61,15 +60,15 @@ module _ (lim : Limits) (v : View) (p C row block : ℕ) where
     unfolding answered refused_by
     wrong_size_lem f = here all_tests (sym sized ∙ f)
 
-    module _ (t : b ≡ true) (a : Answer) (ea : answer_of a ≡ tested (of_ticket lim p C row block)) where
+    module _ (t : b ≡ true) (a : Verdict) (ea : verdict_of a ≡ tested (of_ticket lim p C row block)) where
       from_ticket : Left entry (of_ticket lim p C row block ++ of_ledger v p C)
       from_ticket = past all_tests (sym sized ∙ t)
 
-      pub no_ticket : (r : Refusal) → a ≡ Refused r → answer_of (Refused r) ≡ tested (entry_tests lim v p C row block)
+      pub no_ticket : (r : Refusal) → a ≡ Err r → answer_of (Err r) ≡ tested (entry_tests lim v p C row block)
       unfolding answered refused_by
       no_ticket = part_here _ a ea (of_ledger v p C) from_ticket
 
-      pub by_ledger : (w : ℕ) → a ≡ Finished w → (c : Answer) → answer_of c ≡ tested (of_ledger v p C) → answer_of c ≡ tested (entry_tests lim v p C row block)
+      pub by_ledger : (w : ⊤) → a ≡ Ok w → (c : Verdict) → verdict_of c ≡ tested (of_ledger v p C) → verdict_of c ≡ tested (entry_tests lim v p C row block)
       unfolding refused_by
       by_ledger w f c ec = ec ∙ ap (λ (n : ℕ). answer n 0) (sym (part_past _ a ea (of_ledger v p C) from_ticket refl w f).decide)
 
@@ -99,9 +98,9 @@ unfolding withdraw_tests
 withdraw_taken lim v p C row block e = let t = entry_taken lim v p C row block _ e in record { entry = t.0; there = (passed 12 _ [] t.1).0 }
 
 -- the ticket's place, by what a function answered that made them
-module _ (lim : Limits) (ledger book : List ℕ) (p C row block : ℕ) (a : Answer)
-    (ea : answer_of a ≡ tested (entry_tests lim (view_with lim ledger book) p C row block)) (w : ℕ) (f : a ≡ Finished w) where
-  in_place : Place lim (view_with lim ledger book) ledger row block
+module _ (lim : Limits) (ledger book : List ℕ) (p C row block : ℕ) (a : Verdict)
+    (ea : verdict_of a ≡ tested (entry_tests lim (view_with lim ledger book) p C row block)) (w : ⊤) (f : a ≡ Ok w) where
+  pub in_place : Place lim (view_with lim ledger book) ledger row block
   in_place =
       let t = (entry_taken lim (view_with lim ledger book) p C row block [] (part_passes _ a ea w f)).0 in
       place lim (view_with lim ledger book) ledger (with_book lim ledger book) p C row block t.sized t.range t.ticket t.same_c
@@ -116,12 +115,12 @@ pub record Asks (lim : Limits) (ledger book : List ℕ) (p C row block n : ℕ) 
   pub zero : call.value ≡ 0
 
 module _ {lim : Limits} {ledger book : List ℕ} {p C row block n : ℕ} {holds : Bool → Bool} {call : Call}
-    (asks : Asks lim ledger book p C row block n holds call) (a : Answer)
-    (ea : answer_of a ≡ tested (entry_tests lim (view_with lim ledger book) p C row block)) where
-  pub not_taken : (r : Refusal) → a ≡ Refused r → answer_of (Refused r) ≡ answered call
+    (asks : Asks lim ledger book p C row block n holds call) (a : Verdict)
+    (ea : verdict_of a ≡ tested (entry_tests lim (view_with lim ledger book) p C row block)) where
+  pub not_taken : (r : Refusal) → a ≡ Err r → answer_of (Err r) ≡ answered call
   not_taken = part_here _ a ea _ asks.all_tests
 
-  module _ (w : ℕ) (f : a ≡ Finished w) (b : Bool) (read : b ≡ bit_in lim ledger row block) where
+  module _ (w : ⊤) (f : a ≡ Ok w) (b : Bool) (read : b ≡ bit_in lim ledger row block) where
     from_mark : Left call ((suc n unless holds (mark_in lim ledger row block)) ∷ [])
     from_mark = part_past _ a ea _ asks.all_tests refl w f
 
@@ -159,28 +158,28 @@ module _ (lim : Limits) (ledger book : List ℕ) (p C row block : ℕ) (sum : Li
   }
 
   -- after the tests, by what they answered
-  module _ (a : Answer) (made : answer_of a ≡ answered (book_post_call lim ledger book p C row block sum)) where
-    known : (w : ℕ) → a ≡ Finished w → PostTaken lim v p C row block sum
+  module _ (a : Verdict) (made : verdict_of a ≡ answered (book_post_call lim ledger book p C row block sum)) where
+    known : (w : ⊤) → a ≡ Ok w → PostTaken lim v p C row block sum
     unfolding book_post_call refused_by
-    known w f = post_taken lim v p C row block sum (was_worked _ a made w f).0
+    known w f = post_taken lim v p C row block sum (was_passed _ a made w f)
 
-    pub post_known : (w : ℕ) → a ≡ Finished w → (length sum ≡ 16) × Enterable lim ledger row block × (kept_at row block + 16 ≤ length book)
+    pub post_known : (w : ⊤) → a ≡ Ok w → (length sum ≡ 16) × Enterable lim ledger row block × (kept_at row block + 16 ≤ length book)
     post_known w f =
         let t = known w f in
         let e = may_enter lim v ledger (with_book lim ledger book) p C row block sum t in
         (t.sum_sized, e, keepable lim book row block (book_sized lim ledger book t.sized) e.row_in e.block_in)
 
-    pub posted : (w x : ℕ) (t u : List ℕ) → a ≡ Finished w → x ≡ field sum 0 16 → t ≡ enter lim ledger row block x → u ≡ keep book row block x
+    pub posted : (w : ⊤) (x : ℕ) (t u : List ℕ) → a ≡ Ok w → x ≡ field sum 0 16 → t ≡ enter lim ledger row block x → u ≡ keep book row block x
         → Does (book_post_call lim ledger book p C row block sum) (pos 0) (t ∷ u ∷ [])
     unfolding book_post_call
     posted w x t u f ex et eu =
-        let d = finishes (book_post_call lim ledger book p C row block sum) (was_worked _ a made w f).0 in
+        let d = finishes (book_post_call lim ledger book p C row block sum) (was_passed _ a made w f) in
         let e : x ≡ value_of sum = ex ∙ sum_read sum (known w f).sum_sized in
         (d.0, ap₂ (λ (b c : List ℕ). b ∷ c ∷ []) (et ∙ ap (enter lim ledger row block) e) (eu ∙ ap (keep book row block) e) ∙ d.1)
 
-    pub not_posted : (r : Refusal) → a ≡ Refused r → Does (book_post_call lim ledger book p C row block sum) (answer_of (Refused r)) (ledger ∷ book ∷ [])
+    pub not_posted : (r : Refusal) → a ≡ Err r → Does (book_post_call lim ledger book p C row block sum) (answer_of (Err r)) (ledger ∷ book ∷ [])
     unfolding book_post_call
-    not_posted r f = turned_down (book_post_call lim ledger book p C row block sum) a made r f
+    not_posted r f = turned_back (book_post_call lim ledger book p C row block sum) a made r f
 
 -- ---- withdrawing
 
@@ -189,25 +188,25 @@ module _ (lim : Limits) (ledger book : List ℕ) (p C row block : ℕ) where
   unfolding withdraw_call withdraw_tests refused_by view_with
   withdraw_asks = record { all_tests = record { decide = refl }; zero = refl }
 
-  module _ (a : Answer) (made : answer_of a ≡ answered (withdraw_call lim ledger book p C row block)) where
-    pub withdraw_known : (w : ℕ) → a ≡ Finished w → Removable lim ledger row block × (kept_at row block + 16 ≤ length book)
+  module _ (a : Verdict) (made : verdict_of a ≡ answered (withdraw_call lim ledger book p C row block)) where
+    pub withdraw_known : (w : ⊤) → a ≡ Ok w → Removable lim ledger row block × (kept_at row block + 16 ≤ length book)
     unfolding withdraw_call refused_by
     withdraw_known w f =
         let v = view_with lim ledger book in
-        let t = withdraw_taken lim v p C row block (was_worked _ a made w f).0 in
+        let t = withdraw_taken lim v p C row block (was_passed _ a made w f) in
         let e = t.entry in
         let at = place lim v ledger (with_book lim ledger book) p C row block e.sized e.range e.ticket e.same_c in (
           record { sized = at.sized; row_in = at.row_in; block_in = at.block_in; there = sym at.bit ∙ t.there },
           keepable lim book row block (book_sized lim ledger book e.sized) at.row_in at.block_in,
         )
 
-    pub withdrawn : (w x : ℕ) (t u : List ℕ) → a ≡ Finished w → x ≡ kept_in book row block → t ≡ remove lim ledger row block x
+    pub withdrawn : (w : ⊤) (x : ℕ) (t u : List ℕ) → a ≡ Ok w → x ≡ kept_in book row block → t ≡ remove lim ledger row block x
         → u ≡ keep book row block (joined 0 0) → Does (withdraw_call lim ledger book p C row block) (pos 0) (t ∷ u ∷ [])
     unfolding withdraw_call
     withdrawn w x t u f ex et eu =
-        let d = finishes (withdraw_call lim ledger book p C row block) (was_worked _ a made w f).0 in
+        let d = finishes (withdraw_call lim ledger book p C row block) (was_passed _ a made w f) in
         (d.0, ap₂ (λ (b c : List ℕ). b ∷ c ∷ []) (et ∙ ap (remove lim ledger row block) ex) (eu ∙ ap (keep book row block) joined_zero) ∙ d.1)
 
-    pub not_withdrawn : (r : Refusal) → a ≡ Refused r → Does (withdraw_call lim ledger book p C row block) (answer_of (Refused r)) (ledger ∷ book ∷ [])
+    pub not_withdrawn : (r : Refusal) → a ≡ Err r → Does (withdraw_call lim ledger book p C row block) (answer_of (Err r)) (ledger ∷ book ∷ [])
     unfolding withdraw_call
-    not_withdrawn r f = turned_down (withdraw_call lim ledger book p C row block) a made r f
+    not_withdrawn r f = turned_back (withdraw_call lim ledger book p C row block) a made r f

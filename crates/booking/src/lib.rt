@@ -6,46 +6,39 @@ ghost use mathlib.Core.List.{[], ◌∷◌, foldl};
 ghost use Rattle.series.specs.Names.{formula_of};
 ghost use Rattle.run.specs.Refusal.{tested};
 ghost use Rattle.run.specs.Run.{limits_of};
-ghost use Rattle.run.specs.Answers.{answer_of};
+ghost use Rattle.run.specs.Answers.{answer_of, verdict_of};
 ghost use Rattle.run.specs.Call.{answered, Does};
 ghost use Rattle.sheet.specs.Sheet.{entries};
 ghost use Rattle.book.specs.Book.{view_with, keep_entry};
 ghost use Rattle.booking.specs.Calls.{book_post_call, book_sheet_post_call, entry_tests, withdraw_call, AllKeepable};
 
-use run::{Answer, Refusal};
+use book::Books;
+use ledger::Ledger;
+use run::{Answer, Refusal, Ticket};
 use series::Series;
 use sheet::contents;
+use sheet::contents::{Entries, Sheet};
 use words::Wide;
 
 // Whether a ledger and a book have their sizes.
+#[tactic(auto, unfolding(book::specs::Book::view_with))]
 pub fn sized(f: Series, ledger: &[u8], book: &[u8]) -> bool
     ensures { result ≡ (view_with (limits_of (formula_of f)) ledger.now book.now).sized }
 {
-    if ledger.len() != ledger::ledger_size(f) {
-        return false;
-    }
-    book.len() == book::book_size(f)
+    ledger.len() == ledger::ledger_size(f) && book.len() == book::book_size(f)
 }
 
 // What the refusal table says of one ticket, a ledger and a book, up to the ticket's mark: the tests in the order of their numbers.
-pub fn test_entry(
-    f: Series,
-    ledger: &[u8],
-    book: &[u8],
-    p: u64,
-    c: u64,
-    row: u64,
-    block: u64,
-) -> Answer
-    ensures { answer_of result ≡ tested (entry_tests (limits_of (formula_of f)) (view_with (limits_of (formula_of f)) ledger.now book.now) p c row block) }
+pub fn test_entry(f: Series, ledger: &[u8], book: &[u8], t: Ticket) -> Result<(), Refusal>
+    ensures { verdict_of result
+        ≡ tested (entry_tests (limits_of (formula_of f)) (view_with (limits_of (formula_of f)) ledger.now book.now) t.p t.c t.row t.block) }
 {
     if !sized(f, ledger, book) {
-        return Answer::Refused(Refusal::WrongSize);
+        return Err(Refusal::WrongSize);
     }
-    if let Answer::Refused(r) = run::test_ticket(f, p, c, row, block) {
-        return Answer::Refused(r);
-    }
-    book::test_book(f, ledger, book, p, c)
+    run::test_ticket(f, t)?;
+    let ledger = Ledger { f, bytes: ledger };
+    Books { ledger, book }.test_book(t.p, t.c)
 }
 
 // What the refusal table says of a post of one ticket.
@@ -53,78 +46,58 @@ pub fn test_post(
     f: Series,
     ledger: &[u8],
     book: &[u8],
-    p: u64,
-    c: u64,
-    row: u64,
-    block: u64,
+    t: Ticket,
     sum: &[u8],
-) -> Answer
-    ensures { answer_of result
-        ≡ answered (book_post_call (limits_of (formula_of f)) ledger.now book.now p c row block sum.now) }
+) -> Result<(), Refusal>
+    ensures { verdict_of result
+        ≡ answered (book_post_call (limits_of (formula_of f)) ledger.now book.now t.p t.c t.row t.block sum.now) }
 {
     if sum.len() != 16 {
-        return Answer::Refused(Refusal::WrongSize);
+        return Err(Refusal::WrongSize);
     }
-    if let Answer::Refused(r) = test_entry(f, ledger, book, p, c, row, block) {
-        return Answer::Refused(r);
+    test_entry(f, ledger, book, t)?;
+    let ledger = Ledger { f, bytes: ledger };
+    if ledger.bit_set(t.row as usize, t.block as usize) {
+        return Err(Refusal::Marked);
     }
-    if ledger::marks::bit_set(f, ledger, row as usize, block as usize) {
-        return Answer::Refused(Refusal::Marked);
-    }
-    Answer::Finished(0)
+    Ok(())
 }
 
 // Posts a ticket with its sum, and keeps the sum. All tests are done before a byte is written.
-pub fn post(
-    f: Series,
-    ledger: &mut [u8],
-    book: &mut [u8],
-    p: u64,
-    c: u64,
-    row: u64,
-    block: u64,
-    sum: &[u8],
-) -> Answer
-    ensures { Does (book_post_call (limits_of (formula_of f)) ledger.old book.old p c row block sum.now) (answer_of result)
+pub fn post(f: Series, ledger: &mut [u8], book: &mut [u8], t: Ticket, sum: &[u8]) -> Answer
+    ensures { Does (book_post_call (limits_of (formula_of f)) ledger.old book.old t.p t.c t.row t.block sum.now) (answer_of result)
         (ledger.new ∷ book.new ∷ []) }
 {
-    match test_post(f, ledger, book, p, c, row, block, sum) {
-        Answer::Finished(_) => {
-            let x = words::get_wide(sum, 0);
-            ledger::enter(f, ledger, row as usize, block as usize, x);
-            book::keep(book, row as usize, block as usize, x);
-            Answer::Finished(0)
-        }
-        Answer::Refused(r) => Answer::Refused(r),
-    }
+    test_post(f, ledger, book, t, sum)?;
+    let x = words::get_wide(sum, 0);
+    ledger::enter(f, ledger, t.row as usize, t.block as usize, x);
+    book::keep(book, t.row as usize, t.block as usize, x);
+    Ok(0)
 }
 
 // What the refusal table says of posting a sheet: its tests in the order of their numbers. Ledger and book are looked at once.
-pub fn test_sheet_post(f: Series, ledger: &[u8], book: &[u8], s: &[u8]) -> Answer
-    ensures { answer_of result ≡ answered (book_sheet_post_call (limits_of (formula_of f)) ledger.now book.now s.now) }
+pub fn test_sheet_post(f: Series, ledger: &[u8], book: &[u8], s: &[u8]) -> Result<(), Refusal>
+    ensures { verdict_of result ≡ answered (book_sheet_post_call (limits_of (formula_of f)) ledger.now book.now s.now) }
 {
     if !sized(f, ledger, book) {
-        return Answer::Refused(Refusal::WrongSize);
+        return Err(Refusal::WrongSize);
     }
     if !contents::sized(f, s) {
-        return Answer::Refused(Refusal::WrongSize);
+        return Err(Refusal::WrongSize);
     }
-    if let Answer::Refused(r) = contents::test_sheet(f, s) {
-        return Answer::Refused(r);
+    let sheet = Sheet { bytes: s };
+    sheet.test_sheet(f)?;
+    let ledger = Ledger { f, bytes: ledger };
+    let books = Books { ledger, book };
+    books.test_book(words::get(s, 0, 8), words::get(s, 8, 2))?;
+    let entries = Entries {
+        bytes: s,
+        count: sheet.count(),
+    };
+    if !posting::none_marked(&ledger, &entries) {
+        return Err(Refusal::Marked);
     }
-    if let Answer::Refused(r) = book::test_book(
-        f,
-        ledger,
-        book,
-        words::get(s, 0, 8),
-        words::get(s, 8, 2),
-    ) {
-        return Answer::Refused(r);
-    }
-    if !posting::none_marked(f, ledger, s, contents::count(s)) {
-        return Answer::Refused(Refusal::Marked);
-    }
-    Answer::Finished(0)
+    Ok(())
 }
 
 // Keeps the sum of every ticket of a sheet.
@@ -132,16 +105,12 @@ pub fn keep_all(f: Series, book: &mut [u8], s: &[u8])
     requires { AllKeepable (limits_of (formula_of f)) book.old s.now }
     ensures { book.new ≡ foldl keep_entry book.old (entries s.now) }
 {
-    let e = contents::count(s);
-    let mut i = 0;
-    while i < e {
-        book::keep(
-            book,
-            contents::row(s, i) as usize,
-            contents::block(s, i) as usize,
-            contents::body(s, e, i),
-        );
-        i += 1;
+    let count = Sheet { bytes: s }.count();
+    let entries = Entries { bytes: s, count };
+    for i in 0..entries.count {
+        let row = entries.row(i) as usize;
+        let block = entries.block(i) as usize;
+        book::keep(book, row, block, entries.body(i));
     }
 }
 
@@ -150,57 +119,34 @@ pub fn post_sheet(f: Series, ledger: &mut [u8], book: &mut [u8], s: &[u8]) -> An
     ensures { Does (book_sheet_post_call (limits_of (formula_of f)) ledger.old book.old s.now) (answer_of result)
         (ledger.new ∷ book.new ∷ []) }
 {
-    match test_sheet_post(f, ledger, book, s) {
-        Answer::Finished(_) => {
-            posting::enter_all(f, ledger, s);
-            keep_all(f, book, s);
-            Answer::Finished(0)
-        }
-        Answer::Refused(r) => Answer::Refused(r),
-    }
+    test_sheet_post(f, ledger, book, s)?;
+    posting::enter_all(f, ledger, s);
+    keep_all(f, book, s);
+    Ok(0)
 }
 
 // What the refusal table says of a withdrawal.
-pub fn test_withdraw(
-    f: Series,
-    ledger: &[u8],
-    book: &[u8],
-    p: u64,
-    c: u64,
-    row: u64,
-    block: u64,
-) -> Answer
-    ensures { answer_of result ≡ answered (withdraw_call (limits_of (formula_of f)) ledger.now book.now p c row block) }
+pub fn test_withdraw(f: Series, ledger: &[u8], book: &[u8], t: Ticket) -> Result<(), Refusal>
+    ensures { verdict_of result ≡ answered (withdraw_call (limits_of (formula_of f)) ledger.now book.now t.p t.c t.row t.block) }
 {
-    if let Answer::Refused(r) = test_entry(f, ledger, book, p, c, row, block) {
-        return Answer::Refused(r);
+    test_entry(f, ledger, book, t)?;
+    let ledger = Ledger { f, bytes: ledger };
+    if !ledger.bit_set(t.row as usize, t.block as usize) {
+        return Err(Refusal::Unposted);
     }
-    if !ledger::marks::bit_set(f, ledger, row as usize, block as usize) {
-        return Answer::Refused(Refusal::Unposted);
-    }
-    Answer::Finished(0)
+    Ok(())
 }
 
 // Withdraws a ticket: its sum goes out of the ledger and of the book. All tests are done before a byte is written.
-pub fn withdraw(
-    f: Series,
-    ledger: &mut [u8],
-    book: &mut [u8],
-    p: u64,
-    c: u64,
-    row: u64,
-    block: u64,
-) -> Answer
-    ensures { Does (withdraw_call (limits_of (formula_of f)) ledger.old book.old p c row block) (answer_of result)
+pub fn withdraw(f: Series, ledger: &mut [u8], book: &mut [u8], t: Ticket) -> Answer
+    ensures { Does (withdraw_call (limits_of (formula_of f)) ledger.old book.old t.p t.c t.row t.block) (answer_of result)
         (ledger.new ∷ book.new ∷ []) }
 {
-    match test_withdraw(f, ledger, book, p, c, row, block) {
-        Answer::Finished(_) => {
-            let x = book::kept(book, row as usize, block as usize);
-            book::remove(f, ledger, row as usize, block as usize, x);
-            book::keep(book, row as usize, block as usize, Wide { hi: 0, lo: 0 });
-            Answer::Finished(0)
-        }
-        Answer::Refused(r) => Answer::Refused(r),
-    }
+    test_withdraw(f, ledger, book, t)?;
+    let row = t.row as usize;
+    let block = t.block as usize;
+    let x = book::kept(book, row, block);
+    book::remove(f, ledger, row, block, x);
+    book::keep(book, row, block, Wide { hi: 0, lo: 0 });
+    Ok(0)
 }

@@ -4,7 +4,6 @@ use mathlib.Core.Path.{◌≡◌, refl, ap, ◌∙◌}
 use mathlib.Core.List.{foldl}
 use Prim.Native.Nat.{ℕ}
 use native.Mathlib.Omega.{arith}
-use borrow.Author.Rules.{rules}
 use Rattle.series.specs.Names.{formula_of}
 use Rattle.run.specs.Run.{limits_of}
 use Rattle.sheet.specs.Sheet.{entries_from, entries}
@@ -14,26 +13,23 @@ use Rattle.booking.proofs.keep_all.Goals as goal
 
 pub loop-i-init : goal.loop-i-init
 unfolding entries_from
-loop-i-init c = (omega arith, refl, refl)
+loop-i-init c = refl
 
 pub body-requires : goal.body-requires
 body-requires c = (omega arith, omega arith)
 
 pub keep-requires : goal.keep-requires
 keep-requires c =
-    inside (limits_of (formula_of c.args.f)) c.args.s.now c.args.book.now _ c.count-e.ensures.0 c.loop-i.book _ _ _
-    c.row.ensures.0 c.block.ensures.0 c.requires.sized c.requires.placed c.loop-i.invariant.1 c.loop-i-test.true
+    inside (limits_of (formula_of c.args.f)) c.args.s.now c.args.book.now _ c.count-count.ensures.0 c.loop-i.book _ _ _
+    c.row-row.ensures.0 c.block-block.ensures.0 c.requires.sized c.requires.placed c.loop-i.auto.book c.loop-i-test.true
 
 pub loop-i-preserved : goal.loop-i-preserved
-loop-i-preserved c = (
-  omega arith,
-  search rules,
-  one_kept (limits_of (formula_of c.args.f)) c.args.s.now c.args.book.now _ c.count-e.ensures.0 _ _ _ _
-      c.row.ensures.0 c.block.ensures.0 _ _ c.body.ensures c.keep.ensures c.loop-i.invariant.2,
-)
+loop-i-preserved c =
+    one_kept (limits_of (formula_of c.args.f)) c.args.s.now c.args.book.now _ c.count-count.ensures.0 _ _ _ _
+    c.row-row.ensures.0 c.block-block.ensures.0 _ _ c.body.ensures c.keep.ensures c.loop-i.invariant
 
 pub returns : goal.returns
 unfolding entries
 returns c =
-    let e : c.loop-i.i ≡ c.count-e.result = omega arith in
-    c.loop-i.invariant.2 ∙ ap (λ (n : ℕ). foldl keep_entry c.args.book.now (entries_from c.args.s.now 0 n)) (e ∙ c.count-e.ensures.0)
+    let e : c.loop-i.i ≡ c.count-count.result = omega arith in
+    c.loop-i.invariant ∙ ap (λ (n : ℕ). foldl keep_entry c.args.book.now (entries_from c.args.s.now 0 n)) (e ∙ c.count-count.ensures.0)

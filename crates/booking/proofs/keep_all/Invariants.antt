@@ -2,14 +2,9 @@
 -- Assumes nothing.
 use mathlib.Core.Path.{◌≡◌}
 use mathlib.Core.List.{foldl}
-use Prim.Native.Nat.{◌-◌, ◌≤◌}
-use lib.ListN.{length}
 use Rattle.sheet.specs.Sheet.{entries_from}
 use Rattle.book.specs.Book.{keep_entry}
 use Rattle.booking.proofs.keep_all.Given as goal
 
 abbrev pub invariant-loop-i : goal.invariant-loop-i
-invariant-loop-i l = (l.i ≤ l.e) × (length l.book ≡ length l.initial.book) × (l.book ≡ foldl keep_entry l.initial.book (entries_from l.s 0 l.i))
-
-abbrev pub decreases-loop-i : goal.decreases-loop-i
-decreases-loop-i l = l.e - l.i
+invariant-loop-i l = l.book ≡ foldl keep_entry l.initial.book (entries_from l.s 0 l.i)
