@@ -30,9 +30,8 @@ use Rattle.run.specs.Refusal.{Test, ◌⇐◌, ◌unless◌, refusal}
 use Rattle.run.specs.Run.{Limits, limits_of, in_range}
 use Rattle.run.specs.Tests.{of_sizes}
 use Rattle.run.proofs.Range.{Range, range_of, is_ticket_lem}
-use Rattle.run.specs.Answers.{answer_of}
-use Rattle.run.specs.declared.Answer.{Answer}
-use Rattle.run.specs.declared.Answer.TheVariants.{Finished, Refused}
+use Rattle.std.specs.Prelude.{Ok, Err}
+use Rattle.run.specs.Answers.{Answer, answer_of}
 use Rattle.run.specs.declared.Refusal.{Refusal}
 use Rattle.run.proofs.Answering.{passes, skipped, refused, finished, was_finished}
 use Rattle.run.specs.Call.{Call, answered, refused_by, Does}
@@ -196,19 +195,19 @@ nine_alone R S F v total other out e =
     let e₈ = passes 7 _ _ e₅.1 in
     skipped 1 _ _ e₁.0 ∙ skipped 5 _ _ e₅.0 ∙ skipped 8 _ _ e₈.0 ∙ last_test _
 
-pub was_closed : (F : Formula) (s out : List ℕ) (a : Answer) (d : ℕ) → answer_of a ≡ answered (close_call F s out) → a ≡ Finished d
+pub was_closed : (F : Formula) (s out : List ℕ) (a : Answer) (d : ℕ) → answer_of a ≡ answered (close_call F s out) → a ≡ Ok d
     → (refused_by (close_call F s out) ≡ 0) × (d ≡ settled_at is_charged F (pos_in s) (total_in (limits_of F) s))
 unfolding close_by answered view_of
-was_closed F s out a d e f = was_finished a d _ _ f e
+was_closed F s out a d e f = was_finished d _ _ (sym (ap answer_of f) ∙ e)
 
-pub not_closed : (F : Formula) (s out : List ℕ) (a : Answer) (r : Refusal) → answer_of a ≡ answered (close_call F s out) → a ≡ Refused r
-    → Does (close_call F s out) (answer_of (Refused r)) (out ∷ [])
+pub not_closed : (F : Formula) (s out : List ℕ) (a : Answer) (r : Refusal) → answer_of a ≡ answered (close_call F s out) → a ≡ Err r
+    → Does (close_call F s out) (answer_of (Err r)) (out ∷ [])
 unfolding close_by
 not_closed F s out a r e f = turned_down (close_call F s out) a e r f
 
 -- ---- what is written
 
-pub digits_written : (F : Formula) (s out : List ℕ) (a : Answer) (d : ℕ) → answer_of a ≡ answered (close_call F s out) → a ≡ Finished d → (t : List ℕ) (x : ℕ)
+pub digits_written : (F : Formula) (s out : List ℕ) (a : Answer) (d : ℕ) → answer_of a ≡ answered (close_call F s out) → a ≡ Ok d → (t : List ℕ) (x : ℕ)
     → t ≡ low_digits d (pos (x / unit_at d)) ++ drop d out → low_of is_charged F (pos_in s) (total_in (limits_of F) s) ≡ pos x
     → Does (close_call F s out) (pos d) (t ∷ [])
 unfolding close_by digits_at view_of

@@ -37,10 +37,8 @@ pub fn in_run(f: Series, added: bool, p: u64) -> u64
 {
     let rows = series::formula::row_count(f) as u64;
     let mut sum = 0;
-    let mut row = 0;
-    while row < rows {
+    for row in 0..rows {
         sum += in_row(f, added, p, row);
-        row += 1;
     }
     sum
 }

@@ -15,6 +15,7 @@ ghost use Rattle.run.specs.Call.{Does, answered};
 ghost use Rattle.ledger.specs.Ledger.{pos_in, total_in};
 ghost use Rattle.closing.specs.Closing.{Ordered, low_of, settled_at, close_call};
 
+use ledger::Ledger;
 use run::{Answer, Refusal};
 use series::Series;
 use words::Wide;
@@ -36,34 +37,43 @@ pub fn settled_digits(total: Wide, a: u64, b: u64) -> u64
     digits::shared_digits(words::sub(total, below), high)
 }
 
-// The total of a ledger: the sums of all its rows, added up.
-pub fn total(f: Series, ledger: &[u8]) -> Wide
-    requires { Ordered (limits_of (formula_of f)) ledger.now }
-    ensures { joined result.hi result.lo ≡ total_in (limits_of (formula_of f)) ledger.now }
-{
-    ledger::sums::total(ledger::sums::get(f, ledger))
+// A ledger that is in order.
+#[derive(Clone, Copy)]
+pub struct InOrder<'a> {
+    pub ledger: Ledger<'a>,
+    ghost ordered: { Ordered (limits_of (formula_of ledger.f)) ledger.bytes.now },
 }
 
-// The number of digits that a ledger's total settles.
-pub fn settle(f: Series, ledger: &[u8]) -> u64
-    requires { Ordered (limits_of (formula_of f)) ledger.now }
-    ensures { result ≡ settled_at is_charged (formula_of f) (pos_in ledger.now) (total_in (limits_of (formula_of f)) ledger.now) }
-{
-    let p = words::get(ledger, 0, 8);
-    let a = charges::in_run(f, true, p);
-    let b = charges::in_run(f, false, p);
-    settled_digits(total(f, ledger), a, b)
-}
+impl<'a> InOrder<'a> {
+    // Its total: the sums of all its rows, added up.
+    pub fn total(&self) -> Wide
+        ensures { joined result.hi result.lo ≡ total_in (limits_of (formula_of self.now.ledger.f)) self.now.ledger.bytes.now }
+    {
+        ledger::sums::total(self.ledger.sums())
+    }
 
-// The lower end of the interval around a ledger's total, where a digit is settled, so that it is not below 0.
-pub fn lower_end(f: Series, ledger: &[u8]) -> Wide
-    requires { Ordered (limits_of (formula_of f)) ledger.now
-        × (settled_at is_charged (formula_of f) (pos_in ledger.now) (total_in (limits_of (formula_of f)) ledger.now) ≡ 0 → ⊥) }
-    ensures { low_of is_charged (formula_of f) (pos_in ledger.now) (total_in (limits_of (formula_of f)) ledger.now)
-        ≡ pos (joined result.hi result.lo) }
-{
-    let b = charges::in_run(f, false, words::get(ledger, 0, 8));
-    words::sub(total(f, ledger), Wide { hi: 0, lo: b + 1 })
+    // The number of digits that its total settles.
+    pub fn settle(&self) -> u64
+        ensures { result ≡ settled_at is_charged (formula_of self.now.ledger.f) (pos_in self.now.ledger.bytes.now)
+            (total_in (limits_of (formula_of self.now.ledger.f)) self.now.ledger.bytes.now) }
+    {
+        let f = self.ledger.f;
+        let p = words::get(self.ledger.bytes, 0, 8);
+        let a = charges::in_run(f, true, p);
+        let b = charges::in_run(f, false, p);
+        settled_digits(self.total(), a, b)
+    }
+
+    // The lower end of the interval around its total, where a digit is settled, so that it is not below 0.
+    pub fn lower_end(&self) -> Wide
+        requires { settled_at is_charged (formula_of self.now.ledger.f) (pos_in self.now.ledger.bytes.now)
+            (total_in (limits_of (formula_of self.now.ledger.f)) self.now.ledger.bytes.now) ≡ 0 → ⊥ }
+        ensures { low_of is_charged (formula_of self.now.ledger.f) (pos_in self.now.ledger.bytes.now)
+            (total_in (limits_of (formula_of self.now.ledger.f)) self.now.ledger.bytes.now) ≡ pos (joined result.hi result.lo) }
+    {
+        let b = charges::in_run(self.ledger.f, false, words::get(self.ledger.bytes, 0, 8));
+        words::sub(self.total(), Wide { hi: 0, lo: b + 1 })
+    }
 }
 
 // What the refusal table says of a closing, its tests in the order of their numbers; or the number of digits.
@@ -71,34 +81,32 @@ pub fn test_closing(f: Series, ledger: &[u8], digits: &[u8]) -> Answer
     ensures { answer_of result ≡ answered (close_call (formula_of f) ledger.now digits.now) }
 {
     if ledger.len() != ledger::ledger_size(f) {
-        return Answer::Refused(Refusal::WrongSize);
+        return Err(Refusal::WrongSize);
     }
     if digits.len() != 32 {
-        return Answer::Refused(Refusal::WrongSize);
-    }
-    if !ledger::in_order(f, ledger) {
-        return Answer::Refused(Refusal::OutOfOrder);
+        return Err(Refusal::WrongSize);
     }
     let c = words::get(ledger, 8, 2);
-    if !ledger::marks::all_below(f, ledger, c as usize) {
-        return Answer::Refused(Refusal::Unmarked);
+    let ledger = Ledger { f, bytes: ledger };
+    if !ledger.in_order() {
+        return Err(Refusal::OutOfOrder);
     }
-    let d = settle(f, ledger);
+    if !ledger.all_below(c as usize) {
+        return Err(Refusal::Unmarked);
+    }
+    let d = InOrder { ledger }.settle();
     if d == 0 {
-        return Answer::Refused(Refusal::Unsettled);
+        return Err(Refusal::Unsettled);
     }
-    Answer::Finished(d as u32)
+    Ok(d as u32)
 }
 
 // Closes a ledger: writes the digits that it settles. All tests are done before a byte is written.
 pub fn close(f: Series, ledger: &[u8], digits: &mut [u8]) -> Answer
     ensures { Does (close_call (formula_of f) ledger.now digits.old) (answer_of result) (digits.new ∷ []) }
 {
-    match test_closing(f, ledger, digits) {
-        Answer::Finished(d) => {
-            digits::put_digits(digits, lower_end(f, ledger), d as usize);
-            Answer::Finished(d)
-        }
-        Answer::Refused(r) => Answer::Refused(r),
-    }
+    let d = test_closing(f, ledger, digits)?;
+    let ledger = Ledger { f, bytes: ledger };
+    digits::put_digits(digits, InOrder { ledger }.lower_end(), d as usize);
+    Ok(d)
 }

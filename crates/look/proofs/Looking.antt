@@ -15,10 +15,9 @@ use Rattle.words.proofs.Bytes.{over_all}
 use Rattle.run.specs.Refusal.{refusal}
 use Rattle.run.specs.Run.{Limits}
 use Rattle.run.specs.Call.{answered, refused_by, all_left, bytes_left, Does}
-use Rattle.run.specs.Answers.{answer_of}
+use Rattle.std.specs.Prelude.{Ok, Err, ⊤}
+use Rattle.run.specs.Answers.{Answer, answer_of, Verdict, verdict_of}
 use Rattle.run.specs.declared.Refusal.{Refusal}
-use Rattle.run.specs.declared.Answer.{Answer}
-use Rattle.run.specs.declared.Answer.TheVariants.{Finished, Refused}
 use Rattle.run.proofs.Answering.{negated, refused, finished, stays, kept, changed, not_refused, refused_by_lem, was_finished, was_number}
 use Rattle.run.proofs.Calls.{works, turned_down}
 use Rattle.ledger.specs.Ledger.{view_of, total_in}
@@ -68,10 +67,10 @@ looks_as_posted lim = record {
 }
 
 -- the post would be taken
-pub would_take : (lim : Limits) (ledger s : List ℕ) (a : Answer) (v : ℕ) → answer_of a ≡ answered (sheet_post_call lim ledger s) → a ≡ Finished v
+pub would_take : (lim : Limits) (ledger s : List ℕ) (a : Verdict) (v : ⊤) → verdict_of a ≡ answered (sheet_post_call lim ledger s) → a ≡ Ok v
     → answered (sheet_post_call lim ledger s) ≡ pos 0
 unfolding sheet_post_call refused_by answered
-would_take lim ledger s a v tested f = sym (finished _ 0 (was_finished a v _ 0 f tested).0)
+would_take lim ledger s a v tested f = sym (finished _ 0 (was_finished 0 _ 0 (sym (ap verdict_of f) ∙ tested)).0)
 
 module _ (lim : Limits) (ledger s total : List ℕ) where
   -- ---- after the tests of posting
@@ -80,24 +79,24 @@ module _ (lim : Limits) (ledger s total : List ℕ) where
   unfolding look_call refused_by answered
   other_size h = refused _ 0 _ (wrong_size_lem lim ledger s total h)
 
-  module _ (a : Answer) (tested : answer_of a ≡ answered (sheet_post_call lim ledger s)) where
-    pub would_remain : length total ≡ 16 → (v n : ℕ) → a ≡ Finished v → n ≡ unmarked_in lim (bytes_left (sheet_post_call lim ledger s) 0) → pos n ≡ answered (look_call lim ledger s total)
+  module _ (a : Verdict) (tested : verdict_of a ≡ answered (sheet_post_call lim ledger s)) where
+    pub would_remain : length total ≡ 16 → (v : ⊤) (n : ℕ) → a ≡ Ok v → n ≡ unmarked_in lim (bytes_left (sheet_post_call lim ledger s) 0) → pos n ≡ answered (look_call lim ledger s total)
     unfolding sheet_post_call refused_by answered look_call
-    would_remain room v n f e = ap pos e ∙ finished _ _ (same_number lim ledger s total room ∙ (was_finished a v _ 0 f tested).0)
+    would_remain room v n f e = ap pos e ∙ finished _ _ (same_number lim ledger s total room ∙ (was_finished 0 _ 0 (sym (ap verdict_of f) ∙ tested)).0)
 
-    pub would_refuse : length total ≡ 16 → (r : Refusal) → a ≡ Refused r → answer_of (Refused r) ≡ answered (look_call lim ledger s total)
+    pub would_refuse : length total ≡ 16 → (r : Refusal) → a ≡ Err r → answer_of (Err r) ≡ answered (look_call lim ledger s total)
     unfolding sheet_post_call refused_by answered look_call
     would_refuse room r f =
-        let n = was_number a r _ 0 f tested in
+        let n = was_number r _ 0 (sym (ap verdict_of f) ∙ tested) in
         sym n.2 ∙ refused _ n.0 _ (same_number lim ledger s total room ∙ n.1)
 
   -- ---- after the tests of the look
 
   module _ (a : Answer) (tested : answer_of a ≡ answered (look_call lim ledger s total)) where
-    module _ (v : ℕ) (f : a ≡ Finished v) where
+    module _ (v : ℕ) (f : a ≡ Ok v) where
       no_number : refusal (look_tests lim (view_of lim ledger) s total) ≡ 0
       unfolding look_call refused_by answered
-      no_number = (was_finished a v _ _ f tested).0
+      no_number = (was_finished v _ _ (sym (ap answer_of f) ∙ tested)).0
 
       pub has_room : length total ≡ 16
       has_room = go (eqb (length total) 16) refl
@@ -117,6 +116,6 @@ module _ (lim : Limits) (ledger s total : List ℕ) where
           let d = works (look_call lim ledger s total) a tested v f in
           (d.0, ap (λ (b : List ℕ). b ∷ []) (et ∙ over_all total 16 x has_room ∙ ap (bytes_of 16) ex) ∙ d.1)
 
-    pub not_looked : (r : Refusal) → a ≡ Refused r → Does (look_call lim ledger s total) (answer_of (Refused r)) (total ∷ [])
+    pub not_looked : (r : Refusal) → a ≡ Err r → Does (look_call lim ledger s total) (answer_of (Err r)) (total ∷ [])
     unfolding look_call
     not_looked r f = turned_down (look_call lim ledger s total) a tested r f

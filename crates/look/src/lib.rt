@@ -11,8 +11,10 @@ ghost use Rattle.ledger.specs.Ledger.{total_in};
 ghost use Rattle.posting.specs.Calls.{sheet_post_call};
 ghost use Rattle.look.specs.Look.{unmarked_in, look_call};
 
+use ledger::Ledger;
 use run::{Answer, Refusal};
 use series::Series;
+use sheet::contents::{Entries, Sheet};
 use words::Wide;
 
 // The number of unmarked tickets that would remain: all of the run, less those marked now, less the sheet's.
@@ -22,8 +24,8 @@ pub fn remaining(f: Series, ledger: &[u8], s: &[u8]) -> u32
 {
     let c = words::get(ledger, 8, 2) as usize;
     let tickets = series::formula::row_count(f) * c;
-    let marked = ledger::marks::count(f, ledger, 0, c);
-    let e = sheet::contents::count(s);
+    let marked = Ledger { f, bytes: ledger }.count(0, c);
+    let e = Sheet { bytes: s }.count();
     (tickets - marked - e) as u32
 }
 
@@ -33,12 +35,11 @@ pub fn total_after(f: Series, ledger: &[u8], s: &[u8]) -> Wide
     ensures { joined result.hi result.lo
         ≡ total_in (limits_of (formula_of f)) (bytes_left (sheet_post_call (limits_of (formula_of f)) ledger.now s.now) 0) }
 {
-    let e = sheet::contents::count(s);
-    let mut total = ledger::sums::total(ledger::sums::get(f, ledger));
-    let mut i = 0;
-    while i < e {
-        total = words::add(total, sheet::contents::body(s, e, i));
-        i += 1;
+    let count = Sheet { bytes: s }.count();
+    let entries = Entries { bytes: s, count };
+    let mut total = ledger::sums::total(Ledger { f, bytes: ledger }.sums());
+    for i in 0..entries.count {
+        total = words::add(total, entries.body(i));
     }
     total
 }
@@ -48,12 +49,10 @@ pub fn test_look(f: Series, ledger: &[u8], s: &[u8], total: &[u8]) -> Answer
     ensures { answer_of result ≡ answered (look_call (limits_of (formula_of f)) ledger.now s.now total.now) }
 {
     if total.len() != 16 {
-        return Answer::Refused(Refusal::WrongSize);
+        return Err(Refusal::WrongSize);
     }
-    match posting::test_post(f, ledger, s) {
-        Answer::Finished(_) => Answer::Finished(remaining(f, ledger, s)),
-        Answer::Refused(r) => Answer::Refused(r),
-    }
+    posting::test_post(f, ledger, s)?;
+    Ok(remaining(f, ledger, s))
 }
 
 // Looks at a sheet. All tests are done before a byte is written.
@@ -61,11 +60,7 @@ pub fn look(f: Series, ledger: &[u8], s: &[u8], total: &mut [u8]) -> Answer
     ensures { Does (look_call (limits_of (formula_of f)) ledger.now s.now total.old) (answer_of result)
         (total.new ∷ []) }
 {
-    match test_look(f, ledger, s, total) {
-        Answer::Finished(rest) => {
-            words::put_wide(total, 0, total_after(f, ledger, s));
-            Answer::Finished(rest)
-        }
-        Answer::Refused(r) => Answer::Refused(r),
-    }
+    let rest = test_look(f, ledger, s, total)?;
+    words::put_wide(total, 0, total_after(f, ledger, s));
+    Ok(rest)
 }

@@ -14,10 +14,9 @@ use Rattle.algebra.proofs.Booleans.{and_left, and_right, and_both, left_fails, r
 use Rattle.words.specs.Bytes.{bytes_of, field}
 use Rattle.run.specs.Run.{Entry, Limits}
 use Rattle.run.specs.Tests.{of_sizes}
-use Rattle.run.specs.Answers.{answer_of}
+use Rattle.std.specs.Prelude.{Ok, Err}
+use Rattle.run.specs.Answers.{Answer, answer_of}
 use Rattle.run.specs.declared.Refusal.{Refusal}
-use Rattle.run.specs.declared.Answer.{Answer}
-use Rattle.run.specs.declared.Answer.TheVariants.{Finished, Refused}
 use Rattle.run.specs.Call.{Call, answered, refused_by, Does}
 use Rattle.run.proofs.Testing.{Left, here, past, passed, none_left}
 use Rattle.run.proofs.Calls.{was_worked, works, turned_down}
@@ -148,7 +147,7 @@ module _ (lim : Limits) (ledger book out : List ℕ) where
   -- ---- after the tests, by what they answered
 
   module _ (a : Answer) (made : answer_of a ≡ answered this) where
-    pub none_applied : (size : ℕ) → a ≡ Finished size → Writable lim ledger book out size
+    pub none_applied : (size : ℕ) → a ≡ Ok size → Writable lim ledger book out size
     unfolding standing_call standing_tests refused_by
     none_applied size f =
         let w = was_worked this a made size f in
@@ -162,7 +161,7 @@ module _ (lim : Limits) (ledger book out : List ℕ) where
           counted = let n = w.1 in omega (arith, n);
         }
 
-    pub written : (size p C : ℕ) (o₁ o₂ : List ℕ) → a ≡ Finished size → p ≡ field ledger 0 8 → C ≡ field ledger 8 2
+    pub written : (size p C : ℕ) (o₁ o₂ : List ℕ) → a ≡ Ok size → p ≡ field ledger 0 8 → C ≡ field ledger 8 2
         → o₁ ≡ bytes_of 8 p ++ bytes_of 2 C ++ bytes_of 2 ((size - 16) / 20) ++ bytes_of 4 0 ++ drop 16 out
         → o₂ ≡ take 16 o₁ ++ contents_of (standing_in lim ledger book) ++ bodies_of (standing_in lim ledger book) ++ drop (16 + 20 * ((size - 16) / 20)) o₁
         → Does this (pos size) (o₂ ∷ [])
@@ -173,6 +172,6 @@ module _ (lim : Limits) (ledger book out : List ℕ) where
         let sheet = whole p C ((size - 16) / 20) ts out o₁ o₂ (count_standing lim ledger book ∙ sym (none_applied size f).counted) e₁ e₂ in
         (d.0, ap (λ (b : List ℕ). b ∷ []) (sheet ∙ ap₂ (λ (x y : ℕ). over (sheet_of x y ts) out) ep eC) ∙ d.1)
 
-    pub not_written : (r : Refusal) → a ≡ Refused r → Does this (answer_of (Refused r)) (out ∷ [])
+    pub not_written : (r : Refusal) → a ≡ Err r → Does this (answer_of (Err r)) (out ∷ [])
     unfolding standing_call
     not_written r f = turned_down this a made r f

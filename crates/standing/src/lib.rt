@@ -7,10 +7,10 @@ ghost use Rattle.run.specs.Run.{limits_of};
 ghost use Rattle.run.specs.Answers.{answer_of};
 ghost use Rattle.run.specs.Call.{answered, Does};
 ghost use Rattle.sheet.specs.Sheet.{contents_of, bodies_of};
-ghost use Rattle.ledger.specs.Ledger.{ledger_size};
-ghost use Rattle.book.specs.Book.{book_size};
 ghost use Rattle.standing.specs.Standing.{set_bits, standing_in, standing_call};
 
+use book::Books;
+use ledger::Ledger;
 use run::{Answer, Refusal};
 use series::Series;
 use sheet::layout;
@@ -21,25 +21,28 @@ pub fn test_standing(f: Series, ledger: &[u8], book: &[u8], out: &[u8]) -> Answe
     ensures { answer_of result ≡ answered (standing_call (limits_of (formula_of f)) ledger.now book.now out.now) }
 {
     if !booking::sized(f, ledger, book) {
-        return Answer::Refused(Refusal::WrongSize);
+        return Err(Refusal::WrongSize);
     }
-    let size = 16 + 20 * ledger::marks::count(f, ledger, 0, 256);
+    let ledger = Ledger { f, bytes: ledger };
+    let size = 16 + 20 * ledger.count(0, 256);
     if out.len() < size {
-        return Answer::Refused(Refusal::WrongSize);
+        return Err(Refusal::WrongSize);
     }
-    if !book::in_order(f, ledger, book) {
-        return Answer::Refused(Refusal::OutOfOrder);
+    let books = Books { ledger, book };
+    if !books.in_order() {
+        return Err(Refusal::OutOfOrder);
     }
-    Answer::Finished(size as u32)
+    Ok(size as u32)
 }
 
-// Writes contents and bodies of the e marked tickets, in the order of their places, up to the last of them.
-pub fn put_tickets(f: Series, ledger: &[u8], book: &[u8], e: usize, out: &mut [u8])
-    requires { (length ledger.now ≡ ledger_size (limits_of (formula_of f))) × (length book.now ≡ book_size (limits_of (formula_of f)))
-        × (e ≡ set_bits (limits_of (formula_of f)) ledger.now) × (16 + 20 * e ≤ length out.old) }
+// Writes contents and bodies of the e marked tickets, in the order of their places. The loop ends with the last of them, not with the last
+// place, so that it counts those that are left.
+pub fn put_tickets(books: &Books, e: usize, out: &mut [u8])
+    requires { (e ≡ set_bits (limits_of (formula_of books.now.ledger.f)) books.now.ledger.bytes.now) × (16 + 20 * e ≤ length out.old) }
     ensures { out.new
-        ≡ take 16 out.old ++ contents_of (standing_in (limits_of (formula_of f)) ledger.now book.now)
-        ++ bodies_of (standing_in (limits_of (formula_of f)) ledger.now book.now) ++ drop (16 + 20 * e) out.old }
+        ≡ take 16 out.old ++ contents_of (standing_in (limits_of (formula_of books.now.ledger.f)) books.now.ledger.bytes.now books.now.book.now)
+        ++ bodies_of (standing_in (limits_of (formula_of books.now.ledger.f)) books.now.ledger.bytes.now books.now.book.now)
+        ++ drop (16 + 20 * e) out.old }
 {
     let mut left = e;
     let mut place = 0;
@@ -47,10 +50,10 @@ pub fn put_tickets(f: Series, ledger: &[u8], book: &[u8], e: usize, out: &mut [u
         let row = place / 256;
         let block = place % 256;
         place += 1;
-        if ledger::marks::bit_set(f, ledger, row, block) {
+        if books.ledger.bit_set(row, block) {
             let i = e - left;
             layout::put_line(out, i, row as u64, block as u64);
-            layout::put_body(out, e, i, book::kept(book, row, block));
+            layout::put_body(out, e, i, book::kept(books.book, row, block));
             left -= 1;
         }
     }
@@ -61,18 +64,12 @@ pub fn write(f: Series, ledger: &[u8], book: &[u8], out: &mut [u8]) -> Answer
     ensures { Does (standing_call (limits_of (formula_of f)) ledger.now book.now out.old) (answer_of result)
         (out.new ∷ []) }
 {
-    match test_standing(f, ledger, book, out) {
-        Answer::Finished(size) => {
-            let e = (size as usize - 16) / 20;
-            layout::put_head(
-                words::get(ledger, 0, 8),
-                words::get(ledger, 8, 2),
-                e as u64,
-                out,
-            );
-            put_tickets(f, ledger, book, e, out);
-            Answer::Finished(size)
-        }
-        Answer::Refused(r) => Answer::Refused(r),
-    }
+    let size = test_standing(f, ledger, book, out)?;
+    let e = (size as usize - 16) / 20;
+    let p = words::get(ledger, 0, 8);
+    let c = words::get(ledger, 8, 2);
+    layout::put_head(p, c, e as u64, out);
+    let ledger = Ledger { f, bytes: ledger };
+    put_tickets(&Books { ledger, book }, e, out);
+    Ok(size)
 }

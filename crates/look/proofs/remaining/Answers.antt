@@ -55,14 +55,17 @@ overflow_mul-tickets c =
     let wide = mul-le-mul_left c.row_count.result few_blocks in
     record { fits = omega (arith, wide, c.row_count.ensures.few) }
 
+pub invariant_of-count : goal.invariant_of-count
+invariant_of-count c = record { sized = (is_taken _ _ _ c.requires).sized }
+
 pub count-marked-requires : goal.count-marked-requires
 unfolding blocks_in
 count-marked-requires c =
     let t = is_taken _ _ _ c.requires in
-    (t.sized, omega arith, let C = t.few_blocks in omega (arith, C, c.get-c.ensures))
+    (omega arith, let C = t.few_blocks in omega (arith, C, c.get-c.ensures))
 
-pub count-e-requires : goal.count-e-requires
-count-e-requires c = let t = (is_taken _ _ _ c.requires).whole in omega (arith, t)
+pub invariant_of-count-2 : goal.invariant_of-count-2
+invariant_of-count-2 c = let t = (is_taken _ _ _ c.requires).whole in record { head = omega (arith, t) }
 
 pub overflow_sub-result : goal.overflow_sub-result
 unfolding AllBytes blocks_in

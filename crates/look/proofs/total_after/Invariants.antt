@@ -1,7 +1,7 @@
 -- `look::total_after` meets its contract: at each turn the sums of the tickets passed are added to the total of the row sums.
 -- Assumes nothing.
 use mathlib.Core.Path.{◌≡◌}
-use Prim.Native.Nat.{◌+◌, ◌-◌, ◌%◌, ◌≤◌}
+use Prim.Native.Nat.{◌+◌, ◌%◌}
 use Rattle.algebra.specs.Sum.{sum}
 use Rattle.words.specs.Words.{joined}
 use Rattle.series.specs.Series.{modulus}
@@ -10,7 +10,4 @@ use Rattle.look.proofs.total_after.Given as goal
 
 abbrev pub invariant-loop-i : goal.invariant-loop-i
 invariant-loop-i l =
-    (l.i ≤ l.e) × (joined l.total.hi l.total.lo ≡ (joined l.initial.total.hi l.initial.total.lo + sum (body_at l.s l.e) 0 l.i) % modulus)
-
-abbrev pub decreases-loop-i : goal.decreases-loop-i
-decreases-loop-i l = l.e - l.i
+    joined l.total.hi l.total.lo ≡ (joined l.initial.total.hi l.initial.total.lo + sum (body_at l.s l.count) 0 l.i) % modulus

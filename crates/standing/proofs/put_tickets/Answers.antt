@@ -8,24 +8,24 @@ use Rattle.standing.proofs.Writing.{none_passed, place_left, none_there, one_the
 use Rattle.standing.proofs.put_tickets.Goals as goal
 
 pub loop-left-init : goal.loop-left-init
-loop-left-init c = (omega arith, refl, none_passed _ _ _ _ c.requires.2 _)
+loop-left-init c = (omega arith, refl, none_passed _ _ _ _ c.requires.0 _)
 
 pub overflow_add-place : goal.overflow_add-place
-overflow_add-place c = let few = few_rows c.args.f in omega (arith, few)
+overflow_add-place c = let few = few_rows c.args.books.now.ledger.f in omega (arith, few)
 
 pub bit_set-requires : goal.bit_set-requires
 bit_set-requires c =
-    let inside = place_left _ _ _ _ c.requires.2 _ _ c.loop-left.invariant.2.0 c.loop-left-test.true c.loop-left.invariant.0 in
+    let inside = place_left _ _ _ _ c.requires.0 _ _ c.loop-left.invariant.2.0 c.loop-left-test.true c.loop-left.invariant.0 in
     omega (arith, inside)
 
 pub put_line-requires : goal.put_line-requires
 put_line-requires c =
-    let few = few_rows c.args.f in
+    let few = few_rows c.args.books.now.ledger.f in
     (omega (arith, few), omega arith, omega arith)
 
 pub kept-requires : goal.kept-requires
 kept-requires c =
-    let inside = place_left _ _ _ _ c.requires.2 _ _ c.loop-left.invariant.2.0 c.loop-left-test.true c.loop-left.invariant.0 in
+    let inside = place_left _ _ _ _ c.requires.0 _ _ c.loop-left.invariant.2.0 c.loop-left-test.true c.loop-left.invariant.0 in
     omega (arith, inside)
 
 pub put_body-requires : goal.put_body-requires
@@ -33,29 +33,29 @@ put_body-requires c = (omega arith, omega arith)
 
 pub loop-left-smaller-then-bit_set : goal.loop-left-smaller-then-bit_set
 loop-left-smaller-then-bit_set c =
-    let inside = place_left _ _ _ _ c.requires.2 _ _ c.loop-left.invariant.2.0 c.loop-left-test.true c.loop-left.invariant.0 in
+    let inside = place_left _ _ _ _ c.requires.0 _ _ c.loop-left.invariant.2.0 c.loop-left-test.true c.loop-left.invariant.0 in
     omega (arith, inside)
 
 pub loop-left-preserved-then-bit_set : goal.loop-left-preserved-then-bit_set
 loop-left-preserved-then-bit_set c =
-    let inside = place_left _ _ _ _ c.requires.2 _ _ c.loop-left.invariant.2.0 c.loop-left-test.true c.loop-left.invariant.0 in (
+    let inside = place_left _ _ _ _ c.requires.0 _ _ c.loop-left.invariant.2.0 c.loop-left-test.true c.loop-left.invariant.0 in (
       omega (arith, inside),
       search rules,
-      one_there _ _ _ _ c.requires.2 _ c.requires.3 _ _ _ c.loop-left.invariant.2 _ c.bit_set.ensures _ _ _ c.loop-left-test.true inside
+      one_there _ _ _ _ c.requires.0 _ c.requires.1 _ _ _ c.loop-left.invariant.2 _ c.bit_set.ensures _ _ _ c.loop-left-test.true inside
           c.if-bit_set.true c.kept.ensures c.put_line.ensures c.put_body.ensures,
     )
 
 pub loop-left-smaller : goal.loop-left-smaller
 loop-left-smaller c =
-    let inside = place_left _ _ _ _ c.requires.2 _ _ c.loop-left.invariant.2.0 c.loop-left-test.true c.loop-left.invariant.0 in
+    let inside = place_left _ _ _ _ c.requires.0 _ _ c.loop-left.invariant.2.0 c.loop-left-test.true c.loop-left.invariant.0 in
     omega (arith, inside)
 
 pub loop-left-preserved : goal.loop-left-preserved
 loop-left-preserved c =
-    let inside = place_left _ _ _ _ c.requires.2 _ _ c.loop-left.invariant.2.0 c.loop-left-test.true c.loop-left.invariant.0 in (
+    let inside = place_left _ _ _ _ c.requires.0 _ _ c.loop-left.invariant.2.0 c.loop-left-test.true c.loop-left.invariant.0 in (
       omega (arith, inside),
       c.loop-left.invariant.1,
-      none_there _ _ _ _ c.requires.2 _ c.requires.3 _ _ _ c.loop-left.invariant.2 _ c.bit_set.ensures c.if-bit_set.false,
+      none_there _ _ _ _ c.requires.0 _ c.requires.1 _ _ _ c.loop-left.invariant.2 _ c.bit_set.ensures c.if-bit_set.false,
     )
 
 pub shape_of-out : goal.shape_of-out
@@ -64,4 +64,4 @@ shape_of-out c = c.loop-left.invariant.1
 pub returns : goal.returns
 returns c =
     let none : c.loop-left.left ≡ 0 = omega arith in
-    all_passed _ _ _ _ c.requires.2 _ c.requires.3 _ _ _ none c.loop-left.invariant.2
+    all_passed _ _ _ _ c.requires.0 _ c.requires.1 _ _ _ none c.loop-left.invariant.2

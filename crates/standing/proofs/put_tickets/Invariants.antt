@@ -11,7 +11,7 @@ use Rattle.standing.proofs.put_tickets.Given as goal
 
 abbrev pub invariant-loop-left : goal.invariant-loop-left
 invariant-loop-left l =
-    (l.place ≤ 256 * row_count (formula_of l.f)) × (length l.out ≡ length l.initial.out) × Laid (limits_of (formula_of l.f)) l.ledger l.book l.e l.initial.out l.place l.left l.out
+    (l.place ≤ 256 * row_count (formula_of l.books.ledger.f)) × (length l.out ≡ length l.initial.out) × Laid (limits_of (formula_of l.books.ledger.f)) l.books.ledger.bytes.now l.books.book.now l.e l.initial.out l.place l.left l.out
 
 abbrev pub decreases-loop-left : goal.decreases-loop-left
-decreases-loop-left l = 256 * row_count (formula_of l.f) - l.place
+decreases-loop-left l = 256 * row_count (formula_of l.books.ledger.f) - l.place

@@ -12,8 +12,8 @@ use Rattle.standing.proofs.test_standing.Goals as goal
 pub returns-then-not-sized : goal.returns-then-not-sized
 returns-then-not-sized c = other_size _ _ _ _ _ c.sized.ensures c.if-not-sized.true
 
-pub count-requires : goal.count-requires
-count-requires c = (ledger_sized _ _ _ (right_size _ _ _ _ c.sized.ensures c.if-not-sized.false-raw), omega arith, omega arith)
+pub invariant_of-ledger : goal.invariant_of-ledger
+invariant_of-ledger c = record { sized = ledger_sized _ _ _ (right_size _ _ _ _ c.sized.ensures c.if-not-sized.false) }
 
 pub overflow_mul-size : goal.overflow_mul-size
 overflow_mul-size c =
@@ -33,10 +33,8 @@ pub returns-then-out-size : goal.returns-then-out-size
 returns-then-out-size c =
     no_room _ _ _ _ _ c.sized.ensures _ c.count.ensures c.if-out-size.true
 
-pub in_order-requires : goal.in_order-requires
-in_order-requires c =
-    let right = right_size _ _ _ _ c.sized.ensures c.if-not-sized.false-raw in
-    (ledger_sized _ _ _ right, book_sized _ _ _ right)
+pub invariant_of-books : goal.invariant_of-books
+invariant_of-books c = record { sized = book_sized _ _ _ (right_size _ _ _ _ c.sized.ensures c.if-not-sized.false) }
 
 pub returns-then-not-in_order : goal.returns-then-not-in_order
 returns-then-not-in_order c =

@@ -32,22 +32,21 @@ all f added p s i e h =
     ∙ sym (counts_as_given.closed f (cond added plus minus) p)
 
 pub loop-row-init : goal.loop-row-init
-loop-row-init c = (omega arith, sym (sum_none _ 0), omega arith)
+loop-row-init c = (sym (sum_none _ 0), omega arith)
 
 pub overflow_add-sum : goal.overflow_add-sum
 overflow_add-sum c =
-    record { fits = omega (arith, c.loop-row.invariant.2, c.in_row-sum.ensures.small) }
+    record { fits = omega (arith, c.loop-row.invariant.1, c.in_row-sum.ensures.small) }
 
 pub loop-row-preserved : goal.loop-row-preserved
 loop-row-preserved c =
     let a = c.args in (
-      omega arith,
-      next a.f a.added a.p _ _ _ c.loop-row.invariant.1 c.in_row-sum.ensures.counts,
-      omega (arith, c.loop-row.invariant.2, c.in_row-sum.ensures.small),
+      next a.f a.added a.p _ _ _ c.loop-row.invariant.0 c.in_row-sum.ensures.counts,
+      omega (arith, c.loop-row.invariant.1, c.in_row-sum.ensures.small),
     )
 
 pub returns : goal.returns
 returns c =
     let a = c.args in
     let counted = c.row_count-rows.ensures.counts in
-    record { counts = all a.f a.added a.p _ _ c.loop-row.invariant.1 (omega (arith, counted)); small = omega (arith, c.loop-row.invariant.2) }
+    record { counts = all a.f a.added a.p _ _ c.loop-row.invariant.0 (omega (arith, counted)); small = omega (arith, c.loop-row.invariant.1) }

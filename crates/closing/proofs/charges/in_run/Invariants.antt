@@ -2,7 +2,7 @@
 -- Assumes nothing.
 use mathlib.Core.Path.{◌≡◌}
 use mathlib.Core.Bool.{Bool, cond}
-use Prim.Native.Nat.{ℕ, ◌*◌, ◌-◌, ◌^◌, ◌≤◌}
+use Prim.Native.Nat.{ℕ, ◌*◌, ◌^◌, ◌≤◌}
 use Rattle.algebra.specs.Sum.{sum}
 use Rattle.series.specs.Series.{row_at, plus, minus}
 use Rattle.series.specs.Names.{formula_of}
@@ -15,7 +15,4 @@ abbrev pub of_row : Series → Bool → ℕ → ℕ → ℕ
 of_row f added p i = side_count (formula_of f) (cond added plus minus) (row_at (formula_of f) i) (charged_in (formula_of f) p (row_at (formula_of f) i))
 
 abbrev pub invariant-loop-row : goal.invariant-loop-row
-invariant-loop-row l = (l.row ≤ l.rows) × (l.sum ≡ sum (of_row l.f l.added l.p) 0 l.row) × (l.sum ≤ l.row * 2 ^ 60)
-
-abbrev pub decreases-loop-row : goal.decreases-loop-row
-decreases-loop-row l = l.rows - l.row
+invariant-loop-row l = (l.sum ≡ sum (of_row l.f l.added l.p) 0 l.row) × (l.sum ≤ l.row * 2 ^ 60)
