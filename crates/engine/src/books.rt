@@ -4,6 +4,7 @@ ghost use Rattle.series.specs.Bellard.{bellard};
 ghost use Rattle.calls.specs.Request.{BookPost, BookPostSheet, Withdraw, StandingSheet, Serves};
 
 use crate::answers::to_c;
+use run::Ticket;
 use series::Series;
 
 #[unsafe(no_mangle)]
@@ -19,7 +20,8 @@ pub extern "C" fn bbp_book_post(
     ensures { Serves bellard (BookPost ledger.old book.old p c row block sum.now) result
         (ledger.new ∷ book.new ∷ []) (sum.now ∷ []) }
 {
-    to_c(booking::post(Series::Bellard, ledger, book, p, c, row, block, sum))
+    let t = Ticket { p, c, row, block };
+    to_c(booking::post(Series::Bellard, ledger, book, t, sum))
 }
 
 #[unsafe(no_mangle)]
@@ -42,7 +44,8 @@ pub extern "C" fn bbp_book_withdraw(
     ensures { Serves bellard (Withdraw ledger.old book.old p c row block) result
         (ledger.new ∷ book.new ∷ []) [] }
 {
-    to_c(booking::withdraw(Series::Bellard, ledger, book, p, c, row, block))
+    let t = Ticket { p, c, row, block };
+    to_c(booking::withdraw(Series::Bellard, ledger, book, t))
 }
 
 #[unsafe(no_mangle)]

@@ -5,6 +5,7 @@ ghost use Rattle.series.specs.Check.{check};
 ghost use Rattle.calls.specs.Request.{Open, Post, PostSheet, Look, Serves};
 
 use crate::answers::to_c;
+use run::Ticket;
 use series::Series;
 
 #[unsafe(no_mangle)]
@@ -32,7 +33,8 @@ pub extern "C" fn bbp_post(
 ) -> i64
     ensures { Serves bellard (Post ledger.old p c row block sum.now) result (ledger.new ∷ []) (sum.now ∷ []) }
 {
-    to_c(ledger::post(Series::Bellard, ledger, p, c, row, block, sum))
+    let t = Ticket { p, c, row, block };
+    to_c(ledger::post(Series::Bellard, ledger, t, sum))
 }
 
 #[unsafe(no_mangle)]
@@ -46,7 +48,8 @@ pub extern "C" fn bbp_check_post(
 ) -> i64
     ensures { Serves check (Post ledger.old p c row block sum.now) result (ledger.new ∷ []) (sum.now ∷ []) }
 {
-    to_c(ledger::post(Series::Check, ledger, p, c, row, block, sum))
+    let t = Ticket { p, c, row, block };
+    to_c(ledger::post(Series::Check, ledger, t, sum))
 }
 
 #[unsafe(no_mangle)]

@@ -6,6 +6,7 @@ ghost use Rattle.calls.specs.Request.{Quote, Serves};
 ghost use Rattle.ticket.specs.declared.Part.TheVariants.{Whole, Lower, Upper};
 
 use crate::answers::to_c;
+use run::Ticket;
 use series::Series;
 use ticket::Part;
 
@@ -13,21 +14,24 @@ use ticket::Part;
 pub extern "C" fn bbp_quote(p: u64, c: u64, row: u64, block: u64, squarings: &mut [u8]) -> i64
     ensures { Serves bellard (Quote Whole p c row block squarings.old) result (squarings.new ∷ []) [] }
 {
-    to_c(ticket::quote(Series::Bellard, Part::Whole, p, c, row, block, squarings))
+    let t = Ticket { p, c, row, block };
+    to_c(ticket::quote(Series::Bellard, Part::Whole, t, squarings))
 }
 
 #[unsafe(no_mangle)]
 pub extern "C" fn bbp_check_quote(p: u64, c: u64, row: u64, block: u64, squarings: &mut [u8]) -> i64
     ensures { Serves check (Quote Whole p c row block squarings.old) result (squarings.new ∷ []) [] }
 {
-    to_c(ticket::quote(Series::Check, Part::Whole, p, c, row, block, squarings))
+    let t = Ticket { p, c, row, block };
+    to_c(ticket::quote(Series::Check, Part::Whole, t, squarings))
 }
 
 #[unsafe(no_mangle)]
 pub extern "C" fn bbp_quote_lower(p: u64, c: u64, row: u64, block: u64, squarings: &mut [u8]) -> i64
     ensures { Serves bellard (Quote Lower p c row block squarings.old) result (squarings.new ∷ []) [] }
 {
-    to_c(ticket::quote(Series::Bellard, Part::Lower, p, c, row, block, squarings))
+    let t = Ticket { p, c, row, block };
+    to_c(ticket::quote(Series::Bellard, Part::Lower, t, squarings))
 }
 
 #[unsafe(no_mangle)]
@@ -40,14 +44,16 @@ pub extern "C" fn bbp_check_quote_lower(
 ) -> i64
     ensures { Serves check (Quote Lower p c row block squarings.old) result (squarings.new ∷ []) [] }
 {
-    to_c(ticket::quote(Series::Check, Part::Lower, p, c, row, block, squarings))
+    let t = Ticket { p, c, row, block };
+    to_c(ticket::quote(Series::Check, Part::Lower, t, squarings))
 }
 
 #[unsafe(no_mangle)]
 pub extern "C" fn bbp_quote_upper(p: u64, c: u64, row: u64, block: u64, squarings: &mut [u8]) -> i64
     ensures { Serves bellard (Quote Upper p c row block squarings.old) result (squarings.new ∷ []) [] }
 {
-    to_c(ticket::quote(Series::Bellard, Part::Upper, p, c, row, block, squarings))
+    let t = Ticket { p, c, row, block };
+    to_c(ticket::quote(Series::Bellard, Part::Upper, t, squarings))
 }
 
 #[unsafe(no_mangle)]
@@ -60,5 +66,6 @@ pub extern "C" fn bbp_check_quote_upper(
 ) -> i64
     ensures { Serves check (Quote Upper p c row block squarings.old) result (squarings.new ∷ []) [] }
 {
-    to_c(ticket::quote(Series::Check, Part::Upper, p, c, row, block, squarings))
+    let t = Ticket { p, c, row, block };
+    to_c(ticket::quote(Series::Check, Part::Upper, t, squarings))
 }

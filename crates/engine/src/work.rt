@@ -6,6 +6,7 @@ ghost use Rattle.calls.specs.Request.{Work, Serves};
 ghost use Rattle.ticket.specs.declared.Part.TheVariants.{Whole, Lower, Upper};
 
 use crate::answers::to_c;
+use run::Ticket;
 use series::Series;
 use ticket::Part;
 
@@ -21,16 +22,8 @@ pub extern "C" fn bbp_work(
     ensures { Serves bellard (Work Whole p c row block sum.old squarings.old) result
         (sum.new ∷ squarings.new ∷ []) [] }
 {
-    to_c(ticket::work(
-        Series::Bellard,
-        Part::Whole,
-        p,
-        c,
-        row,
-        block,
-        sum,
-        squarings,
-    ))
+    let t = Ticket { p, c, row, block };
+    to_c(ticket::work(Series::Bellard, Part::Whole, t, sum, squarings))
 }
 
 #[unsafe(no_mangle)]
@@ -45,7 +38,8 @@ pub extern "C" fn bbp_check_work(
     ensures { Serves check (Work Whole p c row block sum.old squarings.old) result
         (sum.new ∷ squarings.new ∷ []) [] }
 {
-    to_c(ticket::work(Series::Check, Part::Whole, p, c, row, block, sum, squarings))
+    let t = Ticket { p, c, row, block };
+    to_c(ticket::work(Series::Check, Part::Whole, t, sum, squarings))
 }
 
 #[unsafe(no_mangle)]
@@ -60,16 +54,8 @@ pub extern "C" fn bbp_work_lower(
     ensures { Serves bellard (Work Lower p c row block sum.old squarings.old) result
         (sum.new ∷ squarings.new ∷ []) [] }
 {
-    to_c(ticket::work(
-        Series::Bellard,
-        Part::Lower,
-        p,
-        c,
-        row,
-        block,
-        sum,
-        squarings,
-    ))
+    let t = Ticket { p, c, row, block };
+    to_c(ticket::work(Series::Bellard, Part::Lower, t, sum, squarings))
 }
 
 #[unsafe(no_mangle)]
@@ -84,7 +70,8 @@ pub extern "C" fn bbp_check_work_lower(
     ensures { Serves check (Work Lower p c row block sum.old squarings.old) result
         (sum.new ∷ squarings.new ∷ []) [] }
 {
-    to_c(ticket::work(Series::Check, Part::Lower, p, c, row, block, sum, squarings))
+    let t = Ticket { p, c, row, block };
+    to_c(ticket::work(Series::Check, Part::Lower, t, sum, squarings))
 }
 
 #[unsafe(no_mangle)]
@@ -99,16 +86,8 @@ pub extern "C" fn bbp_work_upper(
     ensures { Serves bellard (Work Upper p c row block sum.old squarings.old) result
         (sum.new ∷ squarings.new ∷ []) [] }
 {
-    to_c(ticket::work(
-        Series::Bellard,
-        Part::Upper,
-        p,
-        c,
-        row,
-        block,
-        sum,
-        squarings,
-    ))
+    let t = Ticket { p, c, row, block };
+    to_c(ticket::work(Series::Bellard, Part::Upper, t, sum, squarings))
 }
 
 #[unsafe(no_mangle)]
@@ -123,5 +102,6 @@ pub extern "C" fn bbp_check_work_upper(
     ensures { Serves check (Work Upper p c row block sum.old squarings.old) result
         (sum.new ∷ squarings.new ∷ []) [] }
 {
-    to_c(ticket::work(Series::Check, Part::Upper, p, c, row, block, sum, squarings))
+    let t = Ticket { p, c, row, block };
+    to_c(ticket::work(Series::Check, Part::Upper, t, sum, squarings))
 }

@@ -16,10 +16,10 @@ use Rattle.algebra.proofs.Booleans.{and_left, and_right, and_both}
 use Rattle.words.specs.Bytes.{bytes_of}
 use Rattle.run.specs.Refusal.{refusal, answer}
 use Rattle.run.specs.Call.{answered, refused_by, all_left, Does}
-use Rattle.run.specs.Answers.{answer_of}
+use Rattle.std.specs.Prelude.{Ok, Err, is_err}
+use Rattle.std.proofs.lemmas.Bool.{false≢true, true≢false}
+use Rattle.run.specs.Answers.{Answer, answer_of}
 use Rattle.run.specs.declared.Refusal.{Refusal}
-use Rattle.run.specs.declared.Answer.{Answer}
-use Rattle.run.specs.declared.Answer.TheVariants.{Finished, Refused}
 use Rattle.run.proofs.Answering.{was_number}
 use Rattle.run.proofs.Testing.{Left, here, past, none_left}
 use Rattle.run.proofs.Calls.{refuses, finishes, was_worked}
@@ -62,12 +62,22 @@ module _ (a b : Laid) where
   -- ---- what the answer of these tests tells
 
   module _ (t : Answer) (tested : answer_of t ≡ answered (overlap_call a b)) where
-    pub not_refused : (v : ℕ) → t ≡ Finished v → refused_with a b ≡ 0
+    pub not_refused : (v : ℕ) → t ≡ Ok v → refused_with a b ≡ 0
     not_refused v f = (was_worked (overlap_call a b) t tested v f).0
 
-    pub some_refused : (r : Refusal) → t ≡ Refused r → refused_with a b ≡ 0 → ⊥
+    pub some_refused : (r : Refusal) → t ≡ Err r → refused_with a b ≡ 0 → ⊥
     unfolding answered
-    some_refused r f e = let n = was_number t r (refused_with a b) _ f tested in omega (arith, n.1, e)
+    some_refused r f e = let n = was_number r (refused_with a b) _ (sym (ap answer_of f) ∙ tested) in omega (arith, n.1, e)
+
+-- and by whether it is a refusal
+module _ (a b : Laid) where
+  pub none_refused : (t : Answer) → answer_of t ≡ answered (overlap_call a b) → is_err t ≡ false → refused_with a b ≡ 0
+  none_refused (Ok v) tested f = not_refused a b (Ok v) tested v refl
+  none_refused (Err r) tested f = absurd (true≢false f)
+
+  pub one_refused : (t : Answer) → answer_of t ≡ answered (overlap_call a b) → is_err t ≡ true → refused_with a b ≡ 0 → ⊥
+  one_refused (Ok v) tested f = absurd (false≢true f)
+  one_refused (Err r) tested f = some_refused a b (Err r) tested r refl
 
 -- ---- words hold what is reckoned with
 
@@ -184,10 +194,10 @@ module _ (a b : Laid) (out : List ℕ) where
         let d = finishes (overlap_part_call a b out) (same_number ∙ e) in
         (d.0, ap (λ (l : List ℕ). l ∷ []) q ∙ d.1)
 
-    pub not_written : (t : Answer) → answer_of t ≡ answered (overlap_call a b) → (r : Refusal) → t ≡ Refused r
-        → Does (overlap_part_call a b out) (answer_of (Refused r)) (out ∷ [])
+    pub not_written : (t : Answer) → answer_of t ≡ answered (overlap_call a b) → (r : Refusal) → t ≡ Err r
+        → Does (overlap_part_call a b out) (answer_of (Err r)) (out ∷ [])
     unfolding overlap_part_call answered
     not_written t tested r f =
-        let n = was_number t r (refused_with a b) _ f tested in
+        let n = was_number r (refused_with a b) _ (sym (ap answer_of f) ∙ tested) in
         let d = refuses (overlap_part_call a b out) n.0 (same_number ∙ n.1) in
         (sym n.2 ∙ d.0, d.1)

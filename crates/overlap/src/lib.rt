@@ -16,54 +16,49 @@ use run::{Answer, Refusal};
 pub fn all_digits(s: &[u8]) -> bool
     ensures { result ≡ all_digits s.now }
 {
-    let mut i = 0;
-    while i < s.len() {
-        if !digits::is_digit(s[i]) {
+    for c in s {
+        if !digits::is_digit(*c) {
             return false;
         }
-        i += 1;
     }
     true
 }
 
-// Whether a string has 1 to 30 digits and a position from 1 to 2^60.
-pub fn in_form(s: &[u8], p: u64) -> bool
-    ensures { result ≡ in_form (laid s.now p) }
-{
-    if s.len() < 1 {
-        return false;
-    }
-    if 30 < s.len() {
-        return false;
-    }
-    if p < 1 {
-        return false;
-    }
-    if 0x1000_0000_0000_0000 < p {
-        return false;
-    }
-    all_digits(s)
+// Digits, as characters, and the position of the first of them.
+#[derive(Clone, Copy)]
+pub struct Laid<'a> {
+    pub digits: &'a [u8],
+    pub from: u64,
 }
 
-// Whether a string holds position n.
-pub fn holds(s: &[u8], p: u64, n: u64) -> bool
-    ensures { result ≡ definition.holds (laid s.now p) n }
-{
-    if n < p {
-        return false;
+impl<'a> Laid<'a> {
+    // Whether they are 1 to 30 digits, at a position from 1 to 2^60.
+    #[tactic(auto, unfolding(crate::specs::Strings::in_form))]
+    pub fn in_form(&self) -> bool
+        ensures { result ≡ in_form (laid self.now.digits.now self.now.from) }
+    {
+        (1 <= self.digits.len() && self.digits.len() <= 30)
+            && ((1 <= self.from && self.from <= 0x1000_0000_0000_0000) && all_digits(self.digits))
     }
-    n - p < s.len() as u64
-}
 
-// The digit of a string at position n.
-pub fn digit_at(s: &[u8], p: u64, n: u64) -> u8
-    requires { definition.holds (laid s.now p) n ≡ true }
-    ensures { result ≡ definition.digit_at (laid s.now p) n }
-{
-    s[(n - p) as usize]
+    // Whether they hold position n.
+    pub fn holds(&self, n: u64) -> bool
+        ensures { result ≡ definition.holds (laid self.now.digits.now self.now.from) n }
+    {
+        self.from <= n && n - self.from < self.digits.len() as u64
+    }
+
+    // The digit at position n.
+    pub fn digit_at(&self, n: u64) -> u8
+        requires { definition.holds (laid self.now.digits.now self.now.from) n ≡ true }
+        ensures { result ≡ definition.digit_at (laid self.now.digits.now self.now.from) n }
+    {
+        self.digits[(n - self.from) as usize]
+    }
 }
 
 // The later of two positions.
+#[tactic(auto, unfolding(crate::specs::Strings::later))]
 pub fn later(m: u64, n: u64) -> u64
     ensures { result ≡ definition.later m n }
 {
@@ -71,91 +66,78 @@ pub fn later(m: u64, n: u64) -> u64
 }
 
 // Whether two strings are in form.
-pub fn both_in_form(first: &[u8], p: u64, second: &[u8], q: u64) -> bool
-    ensures { result ≡ (in_form (laid first.now p) && in_form (laid second.now q)) }
+pub fn both_in_form(first: &Laid, second: &Laid) -> bool
+    ensures { result ≡ (in_form (laid first.now.digits.now first.now.from) && in_form (laid second.now.digits.now second.now.from)) }
 {
-    if in_form(first, p) {
-        in_form(second, q)
-    } else {
-        false
-    }
+    first.in_form() && second.in_form()
 }
 
 // Whether two strings share a position.
-pub fn share(first: &[u8], p: u64, second: &[u8], q: u64) -> bool
-    ensures { result ≡ definition.share (laid first.now p) (laid second.now q) }
+#[tactic(auto, unfolding(crate::specs::Strings::share))]
+pub fn share(first: &Laid, second: &Laid) -> bool
+    ensures { result ≡ definition.share (laid first.now.digits.now first.now.from) (laid second.now.digits.now second.now.from) }
 {
-    let n = later(p, q);
-    if holds(first, p, n) {
-        holds(second, q, n)
-    } else {
-        false
-    }
+    let n = later(first.from, second.from);
+    first.holds(n) && second.holds(n)
 }
 
 // Whether two strings have the same digit at every position of the first that the second holds as well.
-pub fn agree(first: &[u8], p: u64, second: &[u8], q: u64) -> bool
-    requires { end (laid first.now p) < 2 ^ 64 }
-    ensures { result ≡ definition.agree (laid first.now p) (laid second.now q) }
+pub fn agree(first: &Laid, second: &Laid) -> bool
+    requires { end (laid first.now.digits.now first.now.from) < 2 ^ 64 }
+    ensures { result ≡ definition.agree (laid first.now.digits.now first.now.from) (laid second.now.digits.now second.now.from) }
 {
-    let stop = p + first.len() as u64;
-    let mut n = p;
-    while n < stop {
-        let next = n + 1;
-        if holds(second, q, n) {
-            if digit_at(first, p, n) != digit_at(second, q, n) {
-                return false;
-            }
+    let stop = first.from + first.digits.len() as u64;
+    for n in first.from..stop {
+        if second.holds(n) && first.digit_at(n) != second.digit_at(n) {
+            return false;
         }
-        n = next;
     }
     true
 }
 
 // Whether the second string reaches further than the first.
-pub fn second_further(first: &[u8], p: u64, second: &[u8], q: u64) -> bool
-    requires { (end (laid first.now p) < 2 ^ 64) × (end (laid second.now q) < 2 ^ 64) }
-    ensures { result ≡ second_further (laid first.now p) (laid second.now q) }
+pub fn second_further(first: &Laid, second: &Laid) -> bool
+    requires { (end (laid first.now.digits.now first.now.from) < 2 ^ 64) × (end (laid second.now.digits.now second.now.from) < 2 ^ 64) }
+    ensures { result ≡ second_further (laid first.now.digits.now first.now.from) (laid second.now.digits.now second.now.from) }
 {
-    p + (first.len() as u64) < q + second.len() as u64
+    first.from + (first.digits.len() as u64) < second.from + second.digits.len() as u64
 }
 
 // What the refusal table says of two strings, its tests in the order of their numbers.
-pub fn test_overlap(first: &[u8], p: u64, second: &[u8], q: u64) -> Answer
-    ensures { answer_of result ≡ answered (overlap_call (laid first.now p) (laid second.now q)) }
+pub fn test_overlap(first: &Laid, second: &Laid) -> Answer
+    ensures { answer_of result
+        ≡ answered (overlap_call (laid first.now.digits.now first.now.from) (laid second.now.digits.now second.now.from)) }
 {
-    let formed = both_in_form(first, p, second, q);
-    let shared = share(first, p, second, q);
+    let formed = both_in_form(first, second);
+    let shared = share(first, second);
     if !formed {
-        return Answer::Refused(Refusal::BadString);
+        return Err(Refusal::BadString);
     }
     if !shared {
-        return Answer::Refused(Refusal::Apart);
+        return Err(Refusal::Apart);
     }
-    if !agree(first, p, second, q) {
-        return Answer::Refused(Refusal::Different);
+    if !agree(first, second) {
+        return Err(Refusal::Different);
     }
-    Answer::Finished(0)
+    Ok(0)
 }
 
 // The part of the string that reaches further, the first if both end together, from the first shared position to its end:
 // that string's own memory. Where the strings are refused it is empty, at the end of the first.
-pub fn part<'a>(first: &'a [u8], p: u64, second: &'a [u8], q: u64) -> &'a [u8]
-    ensures { IsPart first.entry p second.entry q result }
+pub fn part<'a>(first: &Laid<'a>, second: &Laid<'a>) -> &'a [u8]
+    ensures { IsPart first.now.digits first.now.from second.now.digits second.now.from result }
 {
-    let none = first.len();
-    match test_overlap(first, p, second, q) {
-        Answer::Finished(_) => {
-            let n = later(p, q);
-            if second_further(first, p, second, q) {
-                let at = (n - q) as usize;
-                return &second[at..];
-            }
-            let at = (n - p) as usize;
-            &first[at..]
-        }
-        Answer::Refused(_) => &first[none..],
+    let none = first.digits.len();
+    if test_overlap(first, second).is_err() {
+        return &first.digits[none..];
     }
+    let n = later(first.from, second.from);
+    if second_further(first, second) {
+        let at = (n - second.from) as usize;
+        return &second.digits[at..];
+    }
+    let at = (n - first.from) as usize;
+    &first.digits[at..]
 }
 
 // Writes a place over 24 bytes: which string, the offset in it, the length.
@@ -170,24 +152,20 @@ pub fn put_place(out: &mut [u8], which: u64, at: u64, len: u64)
 
 // Writes where the part lies. All tests are done before a byte is written. As the part reaches to its string's end, its
 // offset is what its length leaves of that string's.
-pub fn overlap_part<'a>(first: &'a [u8], p: u64, second: &'a [u8], q: u64, out: &mut [u8]) -> Answer
-    ensures { Does (overlap_part_call (laid first.now p) (laid second.now q) out.old) (answer_of result)
-        (out.new ∷ []) }
+pub fn overlap_part<'a>(first: &Laid<'a>, second: &Laid<'a>, out: &mut [u8]) -> Answer
+    ensures { Does (overlap_part_call (laid first.now.digits.now first.now.from) (laid second.now.digits.now second.now.from) out.old)
+        (answer_of result) (out.new ∷ []) }
 {
     if out.len() != 24 {
-        return Answer::Refused(Refusal::WrongSize);
+        return Err(Refusal::WrongSize);
     }
-    match test_overlap(first, p, second, q) {
-        Answer::Finished(_) => {
-            let handed = part(first, p, second, q);
-            let len = handed.len();
-            if second_further(first, p, second, q) {
-                put_place(out, 1, (second.len() - len) as u64, len as u64);
-                return Answer::Finished(0);
-            }
-            put_place(out, 0, (first.len() - len) as u64, len as u64);
-            Answer::Finished(0)
-        }
-        Answer::Refused(r) => Answer::Refused(r),
+    test_overlap(first, second)?;
+    let handed = part(first, second);
+    let len = handed.len();
+    if second_further(first, second) {
+        put_place(out, 1, (second.digits.len() - len) as u64, len as u64);
+        return Ok(0);
     }
+    put_place(out, 0, (first.digits.len() - len) as u64, len as u64);
+    Ok(0)
 }

@@ -25,16 +25,12 @@ module _ (s : List ℕ) (i : ℕ) (e : all_digits (drop i s) ≡ all_digits s) w
   unfolding all_digits
   all_passed h = sym (rw (drop_of_length-le s {i = i} h) refl) ∙ e
 
-pub loop-i-init : goal.loop-i-init
-loop-i-init c = (omega arith, refl)
-
 pub returns-then-not-is_digit : goal.returns-then-not-is_digit
 returns-then-not-is_digit c =
-    fails _ _ c.loop-i.invariant.1 (omega arith) (sym c.is_digit.ensures ∙ c.if-not-is_digit.true)
+    fails _ _ c.loop-c.invariant (omega arith) (sym c.is_digit.ensures ∙ c.if-not-is_digit.true)
 
-pub loop-i-preserved : goal.loop-i-preserved
-loop-i-preserved c =
-    (omega arith, goes_on _ _ c.loop-i.invariant.1 (omega arith) (sym c.is_digit.ensures ∙ c.if-not-is_digit.false))
+pub loop-c-preserved : goal.loop-c-preserved
+loop-c-preserved c = goes_on _ _ c.loop-c.invariant (omega arith) (sym c.is_digit.ensures ∙ c.if-not-is_digit.false)
 
 pub returns : goal.returns
-returns c = all_passed _ _ c.loop-i.invariant.1 c.loop-i-test.false
+returns c = all_passed c.args.s.now c.loop-c.c-index c.loop-c.invariant (omega arith)

@@ -1,13 +1,9 @@
 -- `overlap::all_digits` meets its contract. The loop's invariant: what is left of the string decides.
 -- Assumes nothing.
 use mathlib.Core.Path.{◌≡◌}
-use Prim.Native.Nat.{◌-◌, ◌≤◌}
-use lib.ListN.{length, drop}
+use lib.ListN.{drop}
 use Rattle.overlap.specs.Strings.{all_digits}
 use Rattle.overlap.proofs.all_digits.Given as goal
 
-abbrev pub invariant-loop-i : goal.invariant-loop-i
-invariant-loop-i l = (l.i ≤ length l.s) × (all_digits (drop l.i l.s) ≡ all_digits l.s)
-
-abbrev pub decreases-loop-i : goal.decreases-loop-i
-decreases-loop-i l = length l.s - l.i
+abbrev pub invariant-loop-c : goal.invariant-loop-c
+invariant-loop-c l = all_digits (drop l.c-index l.s) ≡ all_digits l.s

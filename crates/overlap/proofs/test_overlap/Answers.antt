@@ -7,30 +7,30 @@ use Rattle.overlap.proofs.test_overlap.Goals as goal
 
 pub returns-then-not-formed : goal.returns-then-not-formed
 returns-then-not-formed c =
-    let a = laid c.args.first.now c.args.p in
-    let b = laid c.args.second.now c.args.q in
+    let a = laid c.args.first.now.digits.now c.args.first.now.from in
+    let b = laid c.args.second.now.digits.now c.args.second.now.from in
     let formed : (in_form a && in_form b) ≡ false = cc in
     not_formed a b formed
 
 pub returns-then-not-shared : goal.returns-then-not-shared
 returns-then-not-shared c =
-    let a = laid c.args.first.now c.args.p in
-    let b = laid c.args.second.now c.args.q in
+    let a = laid c.args.first.now.digits.now c.args.first.now.from in
+    let b = laid c.args.second.now.digits.now c.args.second.now.from in
     let formed : (in_form a && in_form b) ≡ true = cc in
     let shared : share a b ≡ false = cc in
     not_shared a b formed shared
 
 pub agree-requires : goal.agree-requires
 agree-requires c =
-    let a = laid c.args.first.now c.args.p in
-    let b = laid c.args.second.now c.args.q in
+    let a = laid c.args.first.now.digits.now c.args.first.now.from in
+    let b = laid c.args.second.now.digits.now c.args.second.now.from in
     let formed : (in_form a && in_form b) ≡ true = cc in
     (formed_fit a b formed).0
 
 pub returns-then-not-agree : goal.returns-then-not-agree
 returns-then-not-agree c =
-    let a = laid c.args.first.now c.args.p in
-    let b = laid c.args.second.now c.args.q in
+    let a = laid c.args.first.now.digits.now c.args.first.now.from in
+    let b = laid c.args.second.now.digits.now c.args.second.now.from in
     let formed : (in_form a && in_form b) ≡ true = cc in
     let shared : share a b ≡ true = cc in
     let different : agree a b ≡ false = cc in
@@ -38,8 +38,8 @@ returns-then-not-agree c =
 
 pub returns : goal.returns
 returns c =
-    let a = laid c.args.first.now c.args.p in
-    let b = laid c.args.second.now c.args.q in
+    let a = laid c.args.first.now.digits.now c.args.first.now.from in
+    let b = laid c.args.second.now.digits.now c.args.second.now.from in
     let formed : (in_form a && in_form b) ≡ true = cc in
     let shared : share a b ≡ true = cc in
     let alike : agree a b ≡ true = cc in
