@@ -1,5 +1,5 @@
 // The calls of the C interface: a thin function for each, whose contract names the request that it serves, with its formula.
-#![tactic(auto)]
+#![tactic(auto, using(crate::proofs::Answered::to_caller, overlap::proofs::Placed::answers_alone))]
 
 pub mod answers;
 pub mod books;

@@ -1,8 +1,0 @@
--- `engine::ledgers::bbp_look` meets its contract, which is that of `look::look`.
--- Assumes nothing.
-use mathlib.Core.Path.{refl}
-use Rattle.engine.proofs.Answered.{to_caller}
-use Rattle.engine.proofs.ledgers.bbp_look.Goals as goal
-
-pub returns : goal.returns
-returns c = (to_caller _ _ _ _ c.to_c.type_inv c.to_c.ensures c.look.ensures, refl)
