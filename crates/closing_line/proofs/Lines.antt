@@ -9,9 +9,8 @@ use lib.ListN.{length, take, replicate}
 use Rattle.words.specs.Bytes.{field}
 use Rattle.series.specs.Series.{Formula}
 use Rattle.run.specs.Run.{limits_of}
-use Rattle.run.specs.Answers.{number_of, answer_of}
-use Rattle.run.specs.declared.Answer.{Answer}
-use Rattle.run.specs.declared.Answer.TheVariants.{Finished, Refused}
+use Rattle.std.specs.Prelude.{Ok, Err}
+use Rattle.run.specs.Answers.{number_of, Answer, answer_of}
 use Rattle.run.specs.declared.Refusal.{Refusal}
 use Rattle.run.proofs.Answering.{in_table}
 use Rattle.run.specs.Call.{bytes_left, answered}
@@ -33,15 +32,15 @@ module _ (F : Formula) (s : List ℕ) (a : Answer) (answers : answer_of a ≡ an
   unfolding printed_line
   line_by b e = ap (λ (z : ℤ). line_of z (pos_in s) bytes) (sym (ap answer_of e) ∙ answers)
 
-  pub within : (d : ℕ) → a ≡ Finished d → (8 ≤ length s) × (d ≤ 32)
+  pub within : (d : ℕ) → a ≡ Ok d → (8 ≤ length s) × (d ≤ 32)
   within d f =
       let w = was_closed F s (replicate 32 0) a d answers f in
       (omega (arith, (tested F s (replicate 32 0) w.0).ordered.sized), omega (arith, w.1, settled_few F (pos_in s) (total_in (limits_of F) s)))
 
-  pub finished_line_lem : (d p : ℕ) (digits : List ℕ) → a ≡ Finished d → p ≡ field s 0 8 → digits ≡ bytes
+  pub finished_line_lem : (d p : ℕ) (digits : List ℕ) → a ≡ Ok d → p ≡ field s 0 8 → digits ≡ bytes
       → finished_line p d (take d digits) ≡ printed_line F s
   unfolding line_of pos_in
-  finished_line_lem d p digits f e g = ap₂ (λ (n : ℕ) (t : List ℕ). finished_line n d (take d t)) e g ∙ line_by (Finished d) f
+  finished_line_lem d p digits f e g = ap₂ (λ (n : ℕ) (t : List ℕ). finished_line n d (take d t)) e g ∙ line_by (Ok d) f
 
-  pub refused_line_lem : (r : Refusal) (n : ℕ) → a ≡ Refused r → n ≡ number_of r → refused_line n ≡ printed_line F s
-  refused_line_lem r n f e = ap refused_line e ∙ numbered_line (number_of r) (pos_in s) bytes (in_table r).0 ∙ line_by (Refused r) f
+  pub refused_line_lem : (r : Refusal) (n : ℕ) → a ≡ Err r → n ≡ number_of r → refused_line n ≡ printed_line F s
+  refused_line_lem r n f e = ap refused_line e ∙ numbered_line (number_of r) (pos_in s) bytes (in_table r).0 ∙ line_by (Err r) f

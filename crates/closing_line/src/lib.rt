@@ -7,7 +7,6 @@ ghost use Rattle.series.specs.Names.{formula_of};
 ghost use Rattle.closing_line.specs.Decimal.{decimal};
 ghost use Rattle.closing_line.specs.Line.{Added, word, finished_line, refused_line, printed_line};
 
-use run::Answer;
 use series::Series;
 
 // Room for a line: two numbers of 20 digits, 32 digits, and the byte that ends each.
@@ -18,13 +17,10 @@ pub fn put_word(out: &mut [u8], at: usize, text: &[u8], end: u8) -> usize
     requires { at + length text.now < length out.old }
     ensures { Added out.old at (word text.now end) out.new result }
 {
-    let mut i = 0;
-    while i < text.len() {
-        out[at + i] = text[i];
-        i += 1;
-    }
-    out[at + i] = end;
-    at + i + 1
+    let last = at + text.len();
+    out[at..last].copy_from_slice(text);
+    out[last] = end;
+    last + 1
 }
 
 // The same for a number, in decimal.
@@ -65,10 +61,10 @@ pub fn put_line(f: Series, ledger: &[u8], out: &mut [u8; LONGEST]) -> usize
 {
     let mut digits = [0u8; 32];
     match closing::close(f, ledger, &mut digits) {
-        Answer::Finished(d) => {
+        Ok(d) => {
             let count = d as usize;
             put_finished(out, words::get(ledger, 0, 8), d as u64, &digits[..count])
         }
-        Answer::Refused(r) => put_refused(out, run::number_of(r)),
+        Err(r) => put_refused(out, run::number_of(r)),
     }
 }

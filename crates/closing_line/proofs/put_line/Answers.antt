@@ -9,26 +9,26 @@ use Rattle.closing_line.proofs.put_line.Goals as goal
 
 pub get-requires : goal.get-requires
 get-requires c =
-    (omega (arith, (within _ _ _ c.close.ensures.0 _ c.in-Finished.is).0), omega arith)
+    (omega (arith, (within _ _ _ c.close.ensures.0 _ c.in-Ok.is).0), omega arith)
 
 pub slice_bounds-digits-end : goal.slice_bounds-digits-end
 slice_bounds-digits-end c =
-    let short = (within _ _ _ c.close.ensures.0 _ c.in-Finished.is).1 in
+    let short = (within _ _ _ c.close.ensures.0 _ c.in-Ok.is).1 in
     omega (arith, short)
 
 pub slice_bounds-put_finished-end : goal.slice_bounds-put_finished-end
 slice_bounds-put_finished-end c =
-    let short = (within _ _ _ c.close.ensures.0 _ c.in-Finished.is).1 in
+    let short = (within _ _ _ c.close.ensures.0 _ c.in-Ok.is).1 in
     simp length-take (omega (arith, short))
 
 pub put_finished-requires : goal.put_finished-requires
 put_finished-requires c =
-    simp length-take (omega (arith, (within _ _ _ c.close.ensures.0 _ c.in-Finished.is).1))
+    simp length-take (omega (arith, (within _ _ _ c.close.ensures.0 _ c.in-Ok.is).1))
 
-pub returns-in-Finished : goal.returns-in-Finished
-returns-in-Finished c =
-    record { counts = c.put_finished.ensures.counts; reads = c.put_finished.ensures.reads ∙ finished_line_lem _ _ _ c.close.ensures.0 _ _ _ c.in-Finished.is c.get.ensures (leaves _ c.close.ensures.1 0) }
+pub returns-in-Ok : goal.returns-in-Ok
+returns-in-Ok c =
+    record { counts = c.put_finished.ensures.counts; reads = c.put_finished.ensures.reads ∙ finished_line_lem _ _ _ c.close.ensures.0 _ _ _ c.in-Ok.is c.get.ensures (leaves _ c.close.ensures.1 0) }
 
-pub returns-in-Refused : goal.returns-in-Refused
-returns-in-Refused c =
-    record { counts = c.put_refused.ensures.counts; reads = c.put_refused.ensures.reads ∙ refused_line_lem _ _ _ c.close.ensures.0 _ _ c.in-Refused.is c.number_of.ensures }
+pub returns-in-Err : goal.returns-in-Err
+returns-in-Err c =
+    record { counts = c.put_refused.ensures.counts; reads = c.put_refused.ensures.reads ∙ refused_line_lem _ _ _ c.close.ensures.0 _ _ c.in-Err.is c.number_of.ensures }
