@@ -1,210 +1,149 @@
-// A line for each figure: what is asked, and what the engine's functions give.
-use run::{Answer, Refusal};
+// A line for each figure: what is asked, and what the engine's functions give. What they require is tested before the call; where it does
+// not hold, the line has no figure.
+use montgomery::Quotient;
+use run::Answer;
 use series::Series;
 use std::io;
 use ticket::Part;
-use words::Wide;
 
-fn number(rt: &impl Print, x: u64) -> io::Result<()> {
-    print!(rt; " {x}")
+// What stands before the first word of a line: check runs have names of their own.
+fn prefix(f: Series) -> &'static str {
+    match f {
+        Series::Bellard => "",
+        Series::Check => "check-",
+    }
 }
 
-fn sign(rt: &impl Print, added: bool) -> io::Result<()> {
-    rt.print(if added { " +" } else { " -" })
+// A quotient by its two words, and the squarings that it took. No Display: tests/sources.awk takes no methods.
+fn counted(rt: &impl Print, q: Quotient) -> io::Result<()> {
+    print!(rt; " {:016x}{:016x} {}", q.value.hi, q.value.lo, q.squarings)
 }
 
-fn wide(rt: &impl Print, x: Wide) -> io::Result<()> {
-    print!(rt; " {:016x}{:016x}", x.hi, x.lo)
-}
-
-fn bytes(rt: &impl Print, s: &[u8]) -> io::Result<()> {
-    rt.print(" ")?;
-    for b in s {
-        print!(rt; "{b:02x}")?;
+// K at each position.
+#[tactic(auto, using(run::proofs::Range::position))]
+pub fn counts(rt: &impl Print, f: Series, positions: &[u64]) -> io::Result<()> {
+    for &p in positions {
+        print!(rt; "{}count {p}", prefix(f))?;
+        if run::in_range(f, p, 1) {
+            print!(rt; " {}", series::terms::term_count(f, p))?;
+        }
+        rt.println("")?;
     }
     Ok(())
 }
 
-fn refusal(rt: &impl Print, r: Refusal) -> io::Result<()> {
-    rt.print(match r {
-        Refusal::OutOfRange => " refused 2",
-        Refusal::NoTicket => " refused 4",
-        _ => " refused",
-    })
-}
-
-// The kind of a line; those of check runs have names of their own.
-fn kind(rt: &impl Print, f: Series, name: &str) -> io::Result<()> {
-    match f {
-        Series::Bellard => print!(rt; "{name}"),
-        Series::Check => print!(rt; "check-{name}"),
-    }
-}
-
-fn count_at(rt: &impl Print, f: Series, p: u64) -> io::Result<()> {
-    if !run::in_range(f, p, 1) {
-        return Ok(());
-    }
-    number(rt, series::terms::term_count(f, p))
-}
-
-fn bounds_of(rt: &impl Print, f: Series, p: u64, c: u64, i: u64) -> io::Result<()> {
-    if !run::in_range(f, p, c) {
-        return Ok(());
-    }
-    if c <= i {
-        return Ok(());
-    }
-    let count = series::terms::term_count(f, p);
-    number(rt, run::bound(count, c, i))?;
-    number(rt, run::bound(count, c, i + 1))
-}
-
-fn size_of(rt: &impl Print, f: Series, p: u64, row: u64, k: u64) -> io::Result<()> {
-    if !run::in_range(f, p, 1) {
-        return Ok(());
-    }
-    if !run::is_ticket(f, 1, row, 0) {
-        return Ok(());
-    }
-    if series::terms::term_count(f, p) <= k {
-        return Ok(());
-    }
-    let numbers = series::terms::numbers_of(f, p, row);
-    sign(rt, series::terms::is_added(numbers, k))?;
-    let term = series::terms::size(numbers, k);
-    wide(rt, term.value)?;
-    number(rt, term.squarings)
-}
-
-fn quotient_of(rt: &impl Print, e: u64, n: u64) -> io::Result<()> {
-    if e < 128 {
-        return Ok(());
-    }
-    if n % 2 == 0 {
-        return Ok(());
-    }
-    if n >= 0x8000_0000_0000_0000 {
-        return Ok(());
-    }
-    let q = montgomery::quotient_of_power(e, n);
-    wide(rt, q.value)?;
-    number(rt, q.squarings)
-}
-
-fn sum_of(
-    rt: &impl Print,
-    f: Series,
-    part: Part,
-    p: u64,
-    c: u64,
-    row: u64,
-    block: u64,
-) -> io::Result<()> {
-    let mut sum = [0u8; 16];
-    let mut squarings = [0u8; 16];
-    match ticket::work(f, part, p, c, row, block, &mut sum, &mut squarings) {
-        Answer::Finished(_) => {
-            bytes(rt, &sum)?;
-            bytes(rt, &squarings)
+// The bounds of block i of c, at position p.
+#[tactic(auto, using(run::proofs::Range::position, run::proofs::Range::range_of, series::proofs::Numbers::count_small))]
+pub fn blocks(rt: &impl Print, f: Series, table: &[(u64, u64, u64)]) -> io::Result<()> {
+    for &(p, c, i) in table {
+        print!(rt; "{}block {p} {c} {i}", prefix(f))?;
+        if run::in_range(f, p, c) && i < c {
+            let count = series::terms::term_count(f, p);
+            print!(rt;
+                " {} {}",
+                run::bound(count, c, i),
+                run::bound(count, c, i + 1)
+            )?;
         }
-        Answer::Refused(r) => refusal(rt, r),
+        rt.println("")?;
     }
+    Ok(())
 }
 
-fn squarings_of(
-    rt: &impl Print,
-    f: Series,
-    part: Part,
-    p: u64,
-    c: u64,
-    row: u64,
-    block: u64,
-) -> io::Result<()> {
-    let mut squarings = [0u8; 16];
-    match ticket::quote(f, part, p, c, row, block, &mut squarings) {
-        Answer::Finished(_) => bytes(rt, &squarings),
-        Answer::Refused(r) => refusal(rt, r),
+// The sign and the size of term k of a row at position p, and its squarings.
+#[tactic(auto, using(run::proofs::Range::position))]
+pub fn terms(rt: &impl Print, f: Series, table: &[(u64, u64, u64)]) -> io::Result<()> {
+    for &(p, row, k) in table {
+        print!(rt; "{}term {p} {row} {k}", prefix(f))?;
+        if run::in_range(f, p, 1)
+            && row < series::formula::row_count(f) as u64
+            && k < series::terms::term_count(f, p)
+        {
+            let numbers = series::terms::numbers_of(f, p, row);
+            let added = series::terms::is_added(numbers, k);
+            let sign = if added { " +" } else { " -" };
+            rt.print(sign)?;
+            counted(rt, series::terms::size(numbers, k))?;
+        }
+        rt.println("")?;
     }
-}
-
-// K at position p.
-pub fn count(rt: &impl Print, f: Series, p: u64) -> io::Result<()> {
-    kind(rt, f, "count")?;
-    number(rt, p)?;
-    count_at(rt, f, p)?;
-    rt.println("")
-}
-
-// The bounds of block i of c.
-pub fn block(rt: &impl Print, f: Series, p: u64, c: u64, i: u64) -> io::Result<()> {
-    kind(rt, f, "block")?;
-    print!(rt; " {p} {c} {i}")?;
-    bounds_of(rt, f, p, c, i)?;
-    rt.println("")
-}
-
-// The sign and the size of term k, and its squarings.
-pub fn term(rt: &impl Print, f: Series, p: u64, row: u64, k: u64) -> io::Result<()> {
-    kind(rt, f, "term")?;
-    print!(rt; " {p} {row} {k}")?;
-    size_of(rt, f, p, row, k)?;
-    rt.println("")
+    Ok(())
 }
 
 // The whole part of 2^e / n, modulo 2^128, and the squarings that it took.
-pub fn quotient(rt: &impl Print, e: u64, n: u64) -> io::Result<()> {
-    print!(rt; "quotient {e} {n}")?;
-    quotient_of(rt, e, n)?;
-    rt.println("")
+pub fn quotients(rt: &impl Print, n: u64, exponents: &[u64]) -> io::Result<()> {
+    for &e in exponents {
+        print!(rt; "quotient {e} {n}")?;
+        if e >= 128 && n % 2 == 1 && n < 0x8000_0000_0000_0000 {
+            counted(rt, montgomery::quotient_of_power(e, n))?;
+        }
+        rt.println("")?;
+    }
+    Ok(())
 }
 
-fn part(
+// The 16 bytes of the sum of a part of a ticket and those of its squarings, as they lie, or the refusal.
+fn work(
     rt: &impl Print,
     f: Series,
     name: &str,
     part: Part,
-    p: u64,
-    c: u64,
-    row: u64,
-    block: u64,
+    ticket: (u64, u64, u64, u64),
 ) -> io::Result<()> {
-    kind(rt, f, name)?;
-    print!(rt; " {p} {c} {row} {block}")?;
-    sum_of(rt, f, part, p, c, row, block)?;
-    rt.println("")
+    let (p, c, row, block) = ticket;
+    print!(rt; "{}{name} {p} {c} {row} {block}", prefix(f))?;
+    let mut sum = [0u8; 16];
+    let mut squarings = [0u8; 16];
+    match ticket::work(f, part, p, c, row, block, &mut sum, &mut squarings) {
+        Answer::Finished(_) => println!(rt;
+            " {:032x} {:032x}",
+            u128::from_be_bytes(sum),
+            u128::from_be_bytes(squarings)
+        ),
+        Answer::Refused(r) => println!(rt; " refused {}", run::number_of(r)),
+    }
 }
 
-// The 16 bytes of a ticket's sum and of its squarings, or the refusal.
-pub fn ticket(rt: &impl Print, f: Series, p: u64, c: u64, row: u64, block: u64) -> io::Result<()> {
-    part(rt, f, "ticket", Part::Whole, p, c, row, block)
-}
-
-// The same of its halves, the lower one first.
-pub fn halves(rt: &impl Print, f: Series, p: u64, c: u64, row: u64, block: u64) -> io::Result<()> {
-    part(rt, f, "lower", Part::Lower, p, c, row, block)?;
-    part(rt, f, "upper", Part::Upper, p, c, row, block)
-}
-
-fn quote_part(
+// The 16 bytes of the squarings that a part of a ticket takes, without working it, or the refusal.
+fn quote(
     rt: &impl Print,
     f: Series,
     name: &str,
     part: Part,
-    p: u64,
-    c: u64,
-    row: u64,
-    block: u64,
+    ticket: (u64, u64, u64, u64),
 ) -> io::Result<()> {
-    kind(rt, f, name)?;
-    print!(rt; " {p} {c} {row} {block}")?;
-    squarings_of(rt, f, part, p, c, row, block)?;
-    rt.println("")
+    let (p, c, row, block) = ticket;
+    print!(rt; "{}{name} {p} {c} {row} {block}", prefix(f))?;
+    let mut squarings = [0u8; 16];
+    match ticket::quote(f, part, p, c, row, block, &mut squarings) {
+        Answer::Finished(_) => println!(rt; " {:032x}", u128::from_be_bytes(squarings)),
+        Answer::Refused(r) => println!(rt; " refused {}", run::number_of(r)),
+    }
 }
 
-// The 16 bytes of the squarings that a ticket and its halves take, without working them.
-pub fn quotes(rt: &impl Print, f: Series, p: u64, c: u64, row: u64, block: u64) -> io::Result<()> {
-    quote_part(rt, f, "quote", Part::Whole, p, c, row, block)?;
-    quote_part(rt, f, "quote-lower", Part::Lower, p, c, row, block)?;
-    quote_part(rt, f, "quote-upper", Part::Upper, p, c, row, block)
+// Tickets, each worked as a whole.
+pub fn tickets(rt: &impl Print, f: Series, table: &[(u64, u64, u64, u64)]) -> io::Result<()> {
+    for &t in table {
+        work(rt, f, "ticket", Part::Whole, t)?;
+    }
+    Ok(())
+}
+
+// The halves of tickets, the lower one first.
+pub fn halves(rt: &impl Print, f: Series, table: &[(u64, u64, u64, u64)]) -> io::Result<()> {
+    for &t in table {
+        work(rt, f, "lower", Part::Lower, t)?;
+        work(rt, f, "upper", Part::Upper, t)?;
+    }
+    Ok(())
+}
+
+// What tickets and their halves are quoted at.
+pub fn quotes(rt: &impl Print, f: Series, table: &[(u64, u64, u64, u64)]) -> io::Result<()> {
+    for &t in table {
+        quote(rt, f, "quote", Part::Whole, t)?;
+        quote(rt, f, "quote-lower", Part::Lower, t)?;
+        quote(rt, f, "quote-upper", Part::Upper, t)?;
+    }
+    Ok(())
 }
