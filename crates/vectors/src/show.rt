@@ -1,7 +1,7 @@
 // A line for each figure: what is asked, and what the engine's functions give. What they require is tested before the call; where it does
 // not hold, the line has no figure.
 use montgomery::Quotient;
-use run::Answer;
+use run::Ticket;
 use series::Series;
 use std::io;
 use ticket::Part;
@@ -14,7 +14,7 @@ fn prefix(f: Series) -> &'static str {
     }
 }
 
-// A quotient by its two words, and the squarings that it took. No Display: tests/sources.awk takes no methods.
+// A quotient by its two words, and the squarings that it took.
 fn counted(rt: &impl Print, q: Quotient) -> io::Result<()> {
     print!(rt; " {:016x}{:016x} {}", q.value.hi, q.value.lo, q.squarings)
 }
@@ -94,13 +94,14 @@ fn work(
     print!(rt; "{}{name} {p} {c} {row} {block}", prefix(f))?;
     let mut sum = [0u8; 16];
     let mut squarings = [0u8; 16];
-    match ticket::work(f, part, p, c, row, block, &mut sum, &mut squarings) {
-        Answer::Finished(_) => println!(rt;
+    let t = Ticket { p, c, row, block };
+    match ticket::work(f, part, t, &mut sum, &mut squarings) {
+        Ok(_) => println!(rt;
             " {:032x} {:032x}",
             u128::from_be_bytes(sum),
             u128::from_be_bytes(squarings)
         ),
-        Answer::Refused(r) => println!(rt; " refused {}", run::number_of(r)),
+        Err(r) => println!(rt; " refused {}", run::number_of(r)),
     }
 }
 
@@ -115,9 +116,10 @@ fn quote(
     let (p, c, row, block) = ticket;
     print!(rt; "{}{name} {p} {c} {row} {block}", prefix(f))?;
     let mut squarings = [0u8; 16];
-    match ticket::quote(f, part, p, c, row, block, &mut squarings) {
-        Answer::Finished(_) => println!(rt; " {:032x}", u128::from_be_bytes(squarings)),
-        Answer::Refused(r) => println!(rt; " refused {}", run::number_of(r)),
+    let t = Ticket { p, c, row, block };
+    match ticket::quote(f, part, t, &mut squarings) {
+        Ok(_) => println!(rt; " {:032x}", u128::from_be_bytes(squarings)),
+        Err(r) => println!(rt; " refused {}", run::number_of(r)),
     }
 }
 

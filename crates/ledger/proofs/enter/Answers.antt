@@ -14,28 +14,6 @@ use Rattle.ledger.specs.RowSums.{value_at}
 use Rattle.ledger.proofs.RowSums.{one_added, entered}
 use Rattle.ledger.proofs.enter.Goals as goal
 
-pub bounds-sums-row : goal.bounds-sums-row
-bounds-sums-row c =
-    omega (arith, few_rows c.args.f, c.requires.row_in)
-
-pub offset_bounds-sums-row : goal.offset_bounds-sums-row
-offset_bounds-sums-row c =
-    let small : c.args.row < 7 = omega (arith, few_rows c.args.f, c.requires.row_in) in
-    omega (arith, small)
-
-pub offset_bounds-sums-row-2 : goal.offset_bounds-sums-row-2
-offset_bounds-sums-row-2 c =
-    let small : c.args.row < 7 = omega (arith, few_rows c.args.f, c.requires.row_in) in
-    omega (arith, small)
-
-pub bounds-sums-row-2 : goal.bounds-sums-row-2
-bounds-sums-row-2 c = omega (arith, few_rows c.args.f, c.requires.row_in)
-
-pub set_bit-requires : goal.set_bit-requires
-set_bit-requires c =
-    let given = c.requires in
-    (omega (arith, given), given.new)
-
 pub returns : goal.returns
 unfolding AllBytes value_at
 returns c =

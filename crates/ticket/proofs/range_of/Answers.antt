@@ -46,9 +46,6 @@ pub bound-first-requires : goal.bound-first-requires
 bound-first-requires c =
     bounded c.args.f _ _ _ _ _ c.requires.0 c.requires.1 c.term_count-count.ensures (omega arith)
 
-pub overflow_add-t : goal.overflow_add-t
-overflow_add-t c = let w = range_of _ _ _ c.requires.0 in record { fits = omega (arith, c.requires.1, w.c_high) }
-
 pub bound-end-requires : goal.bound-end-requires
 bound-end-requires c =
     bounded c.args.f _ _ _ _ _ c.requires.0 c.requires.1 c.term_count-count.ensures (omega arith)

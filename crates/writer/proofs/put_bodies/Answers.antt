@@ -20,9 +20,6 @@ sum-worked-requires c =
           args.pairs.now.count c.args.pairs.now.even _ c.requires.2 _ c.loop-i-test.true),
     )
 
-pub put_body-requires : goal.put_body-requires
-put_body-requires c = (omega arith, omega arith)
-
 pub loop-i-preserved : goal.loop-i-preserved
 loop-i-preserved c =
     let args = c.args in next (formula_of args.f) args.p args.c args.pairs.now.bytes.now args.out.now args.pairs.now.count c.args.pairs.now.even _ _ _ _ c.requires.0

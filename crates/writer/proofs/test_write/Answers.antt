@@ -26,9 +26,6 @@ overflow_add-size c =
 pub returns-then-out-size : goal.returns-then-out-size
 returns-then-out-size c = no_room _ _ _ _ _ _ c.sized.ensures c.if-out-size.true
 
-pub test_list-requires : goal.test_list-requires
-test_list-requires c = sym c.sized.ensures ∙ c.if-not-sized.false
-
 pub overflow_cast-result : goal.overflow_cast-result
 overflow_cast-result c =
     let few = few_rows c.args.f in

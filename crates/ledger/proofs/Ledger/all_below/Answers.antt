@@ -5,8 +5,5 @@ use native.Mathlib.Omega.{arith}
 use Rattle.ledger.proofs.Counting.{all_bits}
 use Rattle.ledger.proofs.Ledger.all_below.Goals as goal
 
-pub overflow_mul-result : goal.overflow_mul-result
-overflow_mul-result c = record { fits = omega (arith, mul-le-mul c.row_count.ensures.few c.requires) }
-
 pub returns : goal.returns
 returns c = all_bits _ _ _ _ _ c.count.ensures c.row_count.ensures.counts

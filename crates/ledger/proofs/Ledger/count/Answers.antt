@@ -10,15 +10,7 @@ use Rattle.ledger.proofs.Ledger.count.Goals as goal
 pub loop-row-init : goal.loop-row-init
 loop-row-init c = (omega arith, no_row _ _ _ _)
 
-pub overflow_add-marks : goal.overflow_add-marks
-overflow_add-marks c = record { fits = omega (arith, c.count_row-marks.ensures.few) }
-
 pub loop-row-preserved : goal.loop-row-preserved
 loop-row-preserved c =
     let few = c.count_row-marks.ensures.few in
     (omega (arith, few), one_row _ _ _ _ _ _ _ c.loop-row.invariant.1 c.count_row-marks.ensures.counts)
-
-pub returns : goal.returns
-returns c =
-    let e : c.loop-row.row ≡ row_count (formula_of c.args.self.now.f) = omega arith in
-    rw e at c.loop-row.invariant.1

@@ -14,8 +14,3 @@ loop-row-init c = (refl, none_read _ 7)
 pub loop-row-preserved : goal.loop-row-preserved
 loop-row-preserved c =
     (search rules, one_read _ _ _ _ (omega arith) c.get_wide.ensures c.loop-row.invariant.1)
-
-pub returns : goal.returns
-returns c =
-    let e : c.loop-row.row ≡ row_count (formula_of c.args.self.now.f) = omega arith in
-    rw e at c.loop-row.invariant.1

@@ -17,8 +17,3 @@ pub loop-sum-preserved : goal.loop-sum-preserved
 unfolding value_at
 loop-sum-preserved c =
     total_next modulus (value_at c.args.sums) 0 _ _ _ c.loop-sum.invariant c.add-total.ensures
-
-pub returns : goal.returns
-returns c =
-    let e : c.loop-sum.sum-index ≡ 7 = omega arith in
-    rw (e, zero-add (sum (value_at c.args.sums) 0 7)) at c.loop-sum.invariant

@@ -33,9 +33,6 @@ pub loop-i-init : goal.loop-i-init
 loop-i-init c =
     first c.args.pairs.now.bytes.now c.args.out.now c.args.pairs.now.count c.args.pairs.now.even
 
-pub put_line-requires : goal.put_line-requires
-put_line-requires c = (c.row.ensures.1, omega (arith, c.block.ensures.1), omega arith)
-
 pub loop-i-preserved : goal.loop-i-preserved
 loop-i-preserved c = next c.args.pairs.now.bytes.now c.args.out.now c.args.pairs.now.count c.args.pairs.now.even _ _ _ (omega arith) c.loop-i-test.true
     c.loop-i.invariant (rw (c.row.ensures.0, c.block.ensures.0) at c.put_line.ensures)

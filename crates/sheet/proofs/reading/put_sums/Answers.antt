@@ -10,9 +10,6 @@ loop-i-init c =
     let args = c.args in
     first args.entries.now.bytes.now args.sums.now args.entries.now.count
 
-pub body-requires : goal.body-requires
-body-requires c = (omega arith, omega arith)
-
 pub loop-i-preserved : goal.loop-i-preserved
 loop-i-preserved c = next c.args.entries.now.bytes.now c.args.sums.now c.args.entries.now.count _ _ _ _ c.requires.0 c.loop-i-test.true c.body.ensures
     c.loop-i.invariant c.put_wide.ensures

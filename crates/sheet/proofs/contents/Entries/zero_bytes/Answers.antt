@@ -14,8 +14,3 @@ returns-then-self-i-ne0 c = sym (below_false _ _ _ c.loop-i-test.true (ne_eqb _ 
 
 pub loop-i-preserved : goal.loop-i-preserved
 loop-i-preserved c = below_next _ _ c.loop-i.invariant (eq-eqb _ _ c.if-self-i-ne0.false)
-
-pub returns : goal.returns
-returns c =
-    let e : c.loop-i.i ≡ c.args.self.now.count = omega arith in
-    sym (rw e at c.loop-i.invariant)
