@@ -11,9 +11,6 @@ loop-n-init c = agree_start _ _
 pub digit_at-requires : goal.digit_at-requires
 digit_at-requires c = holds_at _ _ c.loop-n.invariant.from c.loop-n-test.true
 
-pub digit_at-requires-then-holds : goal.digit_at-requires-then-holds
-digit_at-requires-then-holds c = sym c.holds.ensures ∙ c.if-holds.true
-
 pub returns-then-digit_at : goal.returns-then-digit_at
 returns-then-digit_at c =
     agree_stops _ _ _ c.loop-n.invariant c.loop-n-test.true (sym c.holds.ensures ∙ c.if-holds.true)

@@ -19,25 +19,12 @@ loop-i-init c =
     let given = c.requires in
     (search rules, start _ _ _ _ c.count-count.ensures.0 given.ascends given.sized given.placed given.new (search rules) _ c.sums-sums.ensures)
 
-pub body-sum-requires : goal.body-sum-requires
-body-sum-requires c = (omega arith, omega arith)
-
 pub bounds-sums-row : goal.bounds-sums-row
 bounds-sums-row c =
     let given = c.requires in
     let below = row_below _ _ c.args.ledger.now _ c.count-count.ensures.0 given.ascends given.sized given.placed given.new _ _ _ _ 0
     c.loop-i.invariant.1 c.loop-i.auto.ledger c.loop-i-test.true c.row-row.ensures.0 in
     omega (arith, below, few_rows c.args.f)
-
-pub offset_bounds-sums-row : goal.offset_bounds-sums-row
-offset_bounds-sums-row c =
-    let small : c.row-row.result < 7 = (let given = c.requires in let below = row_below _ _ c.args.ledger.now _ c.count-count.ensures.0 given.ascends given.sized given.placed given.new _ _ _ _ 0 c.loop-i.invariant.1 c.loop-i.auto.ledger c.loop-i-test.true c.row-row.ensures.0 in omega (arith, below, few_rows c.args.f)) in
-    omega (arith, small)
-
-pub offset_bounds-sums-row-in-loop-i : goal.offset_bounds-sums-row-in-loop-i
-offset_bounds-sums-row-in-loop-i c =
-    let small : c.row-row.result < 7 = (let given = c.requires in let below = row_below _ _ c.args.ledger.now _ c.count-count.ensures.0 given.ascends given.sized given.placed given.new _ _ _ _ 0 c.loop-i.invariant.1 c.loop-i.auto.ledger c.loop-i-test.true c.row-row.ensures.0 in omega (arith, below, few_rows c.args.f)) in
-    omega (arith, small)
 
 pub bounds-sums-row-in-loop-i : goal.bounds-sums-row-in-loop-i
 bounds-sums-row-in-loop-i c = (let given = c.requires in let below = row_below _ _ c.args.ledger.now _ c.count-count.ensures.0 given.ascends given.sized given.placed given.new _ _ _ _ 0 c.loop-i.invariant.1 c.loop-i.auto.ledger c.loop-i-test.true c.row-row.ensures.0 in omega (arith, below, few_rows c.args.f))

@@ -25,14 +25,6 @@ returns-in_err-test_sheet c =
     other_sheet (alone _ _ _) _ c.sized.ensures (size_right _ _ (c.if-ledger-ledger_size.false ∙ c.ledger_size.ensures)) c.if-not-sized.false _
     c.test_sheet.ensures _ c.in_err-test_sheet.was)
 
-pub get-requires : goal.get-requires
-get-requires c =
-    (omega (arith, (sheet_fits _ _ (sym c.sized.ensures ∙ c.if-not-sized.false)).0), search rules)
-
-pub get-requires-2 : goal.get-requires-2
-get-requires-2 c =
-    (omega (arith, (sheet_fits _ _ (sym c.sized.ensures ∙ c.if-not-sized.false)).0), search rules)
-
 pub returns-in_err-test_ledger : goal.returns-in_err-test_ledger
 returns-in_err-test_ledger c =
     let p = err_from_is_err_and c.from_residual-in_err-test_ledger.result c.from_residual-in_err-test_ledger.ensures.1 in
