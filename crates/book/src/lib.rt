@@ -16,7 +16,7 @@ ghost use Rattle.book.specs.Book.{book_size, kept_at, kept_in, adds_up, zero_els
 ghost use Rattle.book.specs.Book as definition;
 
 use ledger::Ledger;
-use run::Refusal;
+use run::{Refusal, Run};
 use series::Series;
 use words::Wide;
 
@@ -104,16 +104,16 @@ impl<'a, 'b> Books<'a, 'b> {
         self.ledger.in_order() && self.rows_agree()
     }
 
-    // What the refusal table says of both, and of the run p, c that a call names.
+    // What the refusal table says of both, and of the run that a call names.
     #[tactic(auto, unfolding(run::specs::Refusal::refusal, run::specs::Refusal::answer, crate::specs::Book::view_with))]
-    pub fn test_book(&self, p: u64, c: u64) -> Result<(), Refusal>
+    pub fn test_book(&self, run: Run) -> Result<(), Refusal>
         ensures { verdict_of result
-            ≡ tested (of_ledger (view_with (limits_of (formula_of self.now.ledger.f)) self.now.ledger.bytes.now self.now.book.now) p c) }
+            ≡ tested (of_ledger (view_with (limits_of (formula_of self.now.ledger.f)) self.now.ledger.bytes.now self.now.book.now) run.p run.c) }
     {
         if !self.in_order() {
             return Err(Refusal::OutOfOrder);
         }
-        if !self.ledger.same_run(p, c) {
+        if !self.ledger.same_run(run) {
             return Err(Refusal::OtherRun);
         }
         Ok(())

@@ -31,14 +31,14 @@ pub fn sized(f: Series, ledger: &[u8], book: &[u8]) -> bool
 // What the refusal table says of one ticket, a ledger and a book, up to the ticket's mark: the tests in the order of their numbers.
 pub fn test_entry(f: Series, ledger: &[u8], book: &[u8], t: Ticket) -> Result<(), Refusal>
     ensures { verdict_of result
-        ≡ tested (entry_tests (limits_of (formula_of f)) (view_with (limits_of (formula_of f)) ledger.now book.now) t.p t.c t.row t.block) }
+        ≡ tested (entry_tests (limits_of (formula_of f)) (view_with (limits_of (formula_of f)) ledger.now book.now) t.run.p t.run.c t.row t.block) }
 {
     if !sized(f, ledger, book) {
         return Err(Refusal::WrongSize);
     }
     run::test_ticket(f, t)?;
     let ledger = Ledger { f, bytes: ledger };
-    Books { ledger, book }.test_book(t.p, t.c)
+    Books { ledger, book }.test_book(t.run)
 }
 
 // What the refusal table says of a post of one ticket.
@@ -50,7 +50,7 @@ pub fn test_post(
     sum: &[u8],
 ) -> Result<(), Refusal>
     ensures { verdict_of result
-        ≡ answered (book_post_call (limits_of (formula_of f)) ledger.now book.now t.p t.c t.row t.block sum.now) }
+        ≡ answered (book_post_call (limits_of (formula_of f)) ledger.now book.now t.run.p t.run.c t.row t.block sum.now) }
 {
     if sum.len() != 16 {
         return Err(Refusal::WrongSize);
@@ -65,7 +65,7 @@ pub fn test_post(
 
 // Posts a ticket with its sum, and keeps the sum. All tests are done before a byte is written.
 pub fn post(f: Series, ledger: &mut [u8], book: &mut [u8], t: Ticket, sum: &[u8]) -> Answer
-    ensures { Does (book_post_call (limits_of (formula_of f)) ledger.old book.old t.p t.c t.row t.block sum.now) (answer_of result)
+    ensures { Does (book_post_call (limits_of (formula_of f)) ledger.old book.old t.run.p t.run.c t.row t.block sum.now) (answer_of result)
         (ledger.new ∷ book.new ∷ []) }
 {
     test_post(f, ledger, book, t, sum)?;
@@ -89,7 +89,7 @@ pub fn test_sheet_post(f: Series, ledger: &[u8], book: &[u8], s: &[u8]) -> Resul
     sheet.test_sheet(f)?;
     let ledger = Ledger { f, bytes: ledger };
     let books = Books { ledger, book };
-    books.test_book(words::get(s, 0, 8), words::get(s, 8, 2))?;
+    books.test_book(sheet.run())?;
     let entries = Entries {
         bytes: s,
         count: sheet.count(),
@@ -127,7 +127,7 @@ pub fn post_sheet(f: Series, ledger: &mut [u8], book: &mut [u8], s: &[u8]) -> An
 
 // What the refusal table says of a withdrawal.
 pub fn test_withdraw(f: Series, ledger: &[u8], book: &[u8], t: Ticket) -> Result<(), Refusal>
-    ensures { verdict_of result ≡ answered (withdraw_call (limits_of (formula_of f)) ledger.now book.now t.p t.c t.row t.block) }
+    ensures { verdict_of result ≡ answered (withdraw_call (limits_of (formula_of f)) ledger.now book.now t.run.p t.run.c t.row t.block) }
 {
     test_entry(f, ledger, book, t)?;
     let ledger = Ledger { f, bytes: ledger };
@@ -139,7 +139,7 @@ pub fn test_withdraw(f: Series, ledger: &[u8], book: &[u8], t: Ticket) -> Result
 
 // Withdraws a ticket: its sum goes out of the ledger and of the book. All tests are done before a byte is written.
 pub fn withdraw(f: Series, ledger: &mut [u8], book: &mut [u8], t: Ticket) -> Answer
-    ensures { Does (withdraw_call (limits_of (formula_of f)) ledger.old book.old t.p t.c t.row t.block) (answer_of result)
+    ensures { Does (withdraw_call (limits_of (formula_of f)) ledger.old book.old t.run.p t.run.c t.row t.block) (answer_of result)
         (ledger.new ∷ book.new ∷ []) }
 {
     test_withdraw(f, ledger, book, t)?;

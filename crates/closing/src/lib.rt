@@ -58,7 +58,7 @@ impl<'a> InOrder<'a> {
             (total_in (limits_of (formula_of self.now.ledger.f)) self.now.ledger.bytes.now) }
     {
         let f = self.ledger.f;
-        let p = words::get(self.ledger.bytes, 0, 8);
+        let p = self.ledger.run().p;
         let a = charges::in_run(f, true, p);
         let b = charges::in_run(f, false, p);
         settled_digits(self.total(), a, b)
@@ -71,7 +71,7 @@ impl<'a> InOrder<'a> {
         ensures { low_of is_charged (formula_of self.now.ledger.f) (pos_in self.now.ledger.bytes.now)
             (total_in (limits_of (formula_of self.now.ledger.f)) self.now.ledger.bytes.now) ≡ pos (joined result.hi result.lo) }
     {
-        let b = charges::in_run(self.ledger.f, false, words::get(self.ledger.bytes, 0, 8));
+        let b = charges::in_run(self.ledger.f, false, self.ledger.run().p);
         words::sub(self.total(), Wide { hi: 0, lo: b + 1 })
     }
 }
@@ -86,12 +86,11 @@ pub fn test_closing(f: Series, ledger: &[u8], digits: &[u8]) -> Answer
     if digits.len() != 32 {
         return Err(Refusal::WrongSize);
     }
-    let c = words::get(ledger, 8, 2);
     let ledger = Ledger { f, bytes: ledger };
     if !ledger.in_order() {
         return Err(Refusal::OutOfOrder);
     }
-    if !ledger.all_below(c as usize) {
+    if !ledger.all_below(ledger.run().c as usize) {
         return Err(Refusal::Unmarked);
     }
     let d = InOrder { ledger }.settle();

@@ -4,7 +4,7 @@ ghost use Rattle.series.specs.Bellard.{bellard};
 ghost use Rattle.calls.specs.Request.{BookPost, BookPostSheet, Withdraw, StandingSheet, Serves};
 
 use crate::answers::to_c;
-use run::Ticket;
+use run::{Run, Ticket};
 use series::Series;
 
 #[unsafe(no_mangle)]
@@ -20,7 +20,8 @@ pub extern "C" fn bbp_book_post(
     ensures { Serves bellard (BookPost ledger.old book.old p c row block sum.now) result
         (ledger.new ∷ book.new ∷ []) (sum.now ∷ []) }
 {
-    let t = Ticket { p, c, row, block };
+    let run = Run { p, c };
+    let t = Ticket { run, row, block };
     to_c(booking::post(Series::Bellard, ledger, book, t, sum))
 }
 
@@ -44,7 +45,8 @@ pub extern "C" fn bbp_book_withdraw(
     ensures { Serves bellard (Withdraw ledger.old book.old p c row block) result
         (ledger.new ∷ book.new ∷ []) [] }
 {
-    let t = Ticket { p, c, row, block };
+    let run = Run { p, c };
+    let t = Ticket { run, row, block };
     to_c(booking::withdraw(Series::Bellard, ledger, book, t))
 }
 

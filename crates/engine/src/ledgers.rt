@@ -5,21 +5,21 @@ ghost use Rattle.series.specs.Check.{check};
 ghost use Rattle.calls.specs.Request.{Open, Post, PostSheet, Look, Serves};
 
 use crate::answers::to_c;
-use run::Ticket;
+use run::{Run, Ticket};
 use series::Series;
 
 #[unsafe(no_mangle)]
 pub extern "C" fn bbp_open(p: u64, c: u64, ledger: &mut [u8]) -> i64
     ensures { Serves bellard (Open p c ledger.old) result (ledger.new ∷ []) [] }
 {
-    to_c(ledger::open(Series::Bellard, p, c, ledger))
+    to_c(ledger::open(Series::Bellard, Run { p, c }, ledger))
 }
 
 #[unsafe(no_mangle)]
 pub extern "C" fn bbp_check_open(p: u64, c: u64, ledger: &mut [u8]) -> i64
     ensures { Serves check (Open p c ledger.old) result (ledger.new ∷ []) [] }
 {
-    to_c(ledger::open(Series::Check, p, c, ledger))
+    to_c(ledger::open(Series::Check, Run { p, c }, ledger))
 }
 
 #[unsafe(no_mangle)]
@@ -33,7 +33,8 @@ pub extern "C" fn bbp_post(
 ) -> i64
     ensures { Serves bellard (Post ledger.old p c row block sum.now) result (ledger.new ∷ []) (sum.now ∷ []) }
 {
-    let t = Ticket { p, c, row, block };
+    let run = Run { p, c };
+    let t = Ticket { run, row, block };
     to_c(ledger::post(Series::Bellard, ledger, t, sum))
 }
 
@@ -48,7 +49,8 @@ pub extern "C" fn bbp_check_post(
 ) -> i64
     ensures { Serves check (Post ledger.old p c row block sum.now) result (ledger.new ∷ []) (sum.now ∷ []) }
 {
-    let t = Ticket { p, c, row, block };
+    let run = Run { p, c };
+    let t = Ticket { run, row, block };
     to_c(ledger::post(Series::Check, ledger, t, sum))
 }
 

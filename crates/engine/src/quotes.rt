@@ -6,7 +6,7 @@ ghost use Rattle.calls.specs.Request.{Quote, Serves};
 ghost use Rattle.ticket.specs.declared.Part.TheVariants.{Whole, Lower, Upper};
 
 use crate::answers::to_c;
-use run::Ticket;
+use run::{Run, Ticket};
 use series::Series;
 use ticket::Part;
 
@@ -14,7 +14,8 @@ use ticket::Part;
 pub extern "C" fn bbp_quote(p: u64, c: u64, row: u64, block: u64, squarings: &mut [u8]) -> i64
     ensures { Serves bellard (Quote Whole p c row block squarings.old) result (squarings.new ∷ []) [] }
 {
-    let t = Ticket { p, c, row, block };
+    let run = Run { p, c };
+    let t = Ticket { run, row, block };
     to_c(ticket::quote(Series::Bellard, Part::Whole, t, squarings))
 }
 
@@ -22,7 +23,8 @@ pub extern "C" fn bbp_quote(p: u64, c: u64, row: u64, block: u64, squarings: &mu
 pub extern "C" fn bbp_check_quote(p: u64, c: u64, row: u64, block: u64, squarings: &mut [u8]) -> i64
     ensures { Serves check (Quote Whole p c row block squarings.old) result (squarings.new ∷ []) [] }
 {
-    let t = Ticket { p, c, row, block };
+    let run = Run { p, c };
+    let t = Ticket { run, row, block };
     to_c(ticket::quote(Series::Check, Part::Whole, t, squarings))
 }
 
@@ -30,7 +32,8 @@ pub extern "C" fn bbp_check_quote(p: u64, c: u64, row: u64, block: u64, squaring
 pub extern "C" fn bbp_quote_lower(p: u64, c: u64, row: u64, block: u64, squarings: &mut [u8]) -> i64
     ensures { Serves bellard (Quote Lower p c row block squarings.old) result (squarings.new ∷ []) [] }
 {
-    let t = Ticket { p, c, row, block };
+    let run = Run { p, c };
+    let t = Ticket { run, row, block };
     to_c(ticket::quote(Series::Bellard, Part::Lower, t, squarings))
 }
 
@@ -44,7 +47,8 @@ pub extern "C" fn bbp_check_quote_lower(
 ) -> i64
     ensures { Serves check (Quote Lower p c row block squarings.old) result (squarings.new ∷ []) [] }
 {
-    let t = Ticket { p, c, row, block };
+    let run = Run { p, c };
+    let t = Ticket { run, row, block };
     to_c(ticket::quote(Series::Check, Part::Lower, t, squarings))
 }
 
@@ -52,7 +56,8 @@ pub extern "C" fn bbp_check_quote_lower(
 pub extern "C" fn bbp_quote_upper(p: u64, c: u64, row: u64, block: u64, squarings: &mut [u8]) -> i64
     ensures { Serves bellard (Quote Upper p c row block squarings.old) result (squarings.new ∷ []) [] }
 {
-    let t = Ticket { p, c, row, block };
+    let run = Run { p, c };
+    let t = Ticket { run, row, block };
     to_c(ticket::quote(Series::Bellard, Part::Upper, t, squarings))
 }
 
@@ -66,6 +71,7 @@ pub extern "C" fn bbp_check_quote_upper(
 ) -> i64
     ensures { Serves check (Quote Upper p c row block squarings.old) result (squarings.new ∷ []) [] }
 {
-    let t = Ticket { p, c, row, block };
+    let run = Run { p, c };
+    let t = Ticket { run, row, block };
     to_c(ticket::quote(Series::Check, Part::Upper, t, squarings))
 }

@@ -5,20 +5,21 @@ ghost use Rattle.series.specs.Check.{check};
 ghost use Rattle.calls.specs.Request.{WriteSheet, ReadSheet, Serves};
 
 use crate::answers::to_c;
+use run::Run;
 use series::Series;
 
 #[unsafe(no_mangle)]
 pub extern "C" fn bbp_sheet_write(p: u64, c: u64, list: &[u8], sheet: &mut [u8]) -> i64
     ensures { Serves bellard (WriteSheet p c list.now sheet.old) result (sheet.new ∷ []) (list.now ∷ []) }
 {
-    to_c(writer::write(Series::Bellard, p, c, list, sheet))
+    to_c(writer::write(Series::Bellard, Run { p, c }, list, sheet))
 }
 
 #[unsafe(no_mangle)]
 pub extern "C" fn bbp_check_sheet_write(p: u64, c: u64, list: &[u8], sheet: &mut [u8]) -> i64
     ensures { Serves check (WriteSheet p c list.now sheet.old) result (sheet.new ∷ []) (list.now ∷ []) }
 {
-    to_c(writer::write(Series::Check, p, c, list, sheet))
+    to_c(writer::write(Series::Check, Run { p, c }, list, sheet))
 }
 
 #[unsafe(no_mangle)]

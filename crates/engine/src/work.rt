@@ -6,7 +6,7 @@ ghost use Rattle.calls.specs.Request.{Work, Serves};
 ghost use Rattle.ticket.specs.declared.Part.TheVariants.{Whole, Lower, Upper};
 
 use crate::answers::to_c;
-use run::Ticket;
+use run::{Run, Ticket};
 use series::Series;
 use ticket::Part;
 
@@ -22,7 +22,8 @@ pub extern "C" fn bbp_work(
     ensures { Serves bellard (Work Whole p c row block sum.old squarings.old) result
         (sum.new ∷ squarings.new ∷ []) [] }
 {
-    let t = Ticket { p, c, row, block };
+    let run = Run { p, c };
+    let t = Ticket { run, row, block };
     to_c(ticket::work(Series::Bellard, Part::Whole, t, sum, squarings))
 }
 
@@ -38,7 +39,8 @@ pub extern "C" fn bbp_check_work(
     ensures { Serves check (Work Whole p c row block sum.old squarings.old) result
         (sum.new ∷ squarings.new ∷ []) [] }
 {
-    let t = Ticket { p, c, row, block };
+    let run = Run { p, c };
+    let t = Ticket { run, row, block };
     to_c(ticket::work(Series::Check, Part::Whole, t, sum, squarings))
 }
 
@@ -54,7 +56,8 @@ pub extern "C" fn bbp_work_lower(
     ensures { Serves bellard (Work Lower p c row block sum.old squarings.old) result
         (sum.new ∷ squarings.new ∷ []) [] }
 {
-    let t = Ticket { p, c, row, block };
+    let run = Run { p, c };
+    let t = Ticket { run, row, block };
     to_c(ticket::work(Series::Bellard, Part::Lower, t, sum, squarings))
 }
 
@@ -70,7 +73,8 @@ pub extern "C" fn bbp_check_work_lower(
     ensures { Serves check (Work Lower p c row block sum.old squarings.old) result
         (sum.new ∷ squarings.new ∷ []) [] }
 {
-    let t = Ticket { p, c, row, block };
+    let run = Run { p, c };
+    let t = Ticket { run, row, block };
     to_c(ticket::work(Series::Check, Part::Lower, t, sum, squarings))
 }
 
@@ -86,7 +90,8 @@ pub extern "C" fn bbp_work_upper(
     ensures { Serves bellard (Work Upper p c row block sum.old squarings.old) result
         (sum.new ∷ squarings.new ∷ []) [] }
 {
-    let t = Ticket { p, c, row, block };
+    let run = Run { p, c };
+    let t = Ticket { run, row, block };
     to_c(ticket::work(Series::Bellard, Part::Upper, t, sum, squarings))
 }
 
@@ -102,6 +107,7 @@ pub extern "C" fn bbp_check_work_upper(
     ensures { Serves check (Work Upper p c row block sum.old squarings.old) result
         (sum.new ∷ squarings.new ∷ []) [] }
 {
-    let t = Ticket { p, c, row, block };
+    let run = Run { p, c };
+    let t = Ticket { run, row, block };
     to_c(ticket::work(Series::Check, Part::Upper, t, sum, squarings))
 }

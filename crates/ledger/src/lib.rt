@@ -15,7 +15,7 @@ ghost use Rattle.ledger.specs.Ledger.{ledger_size, pos_in, blocks_in, in_order, 
 ghost use Rattle.ledger.specs.Ledger as definition;
 ghost use Rattle.ledger.specs.Calls.{of_ledger, open_call, post_call};
 
-use run::{Answer, Refusal, Ticket};
+use run::{Answer, Refusal, Run, Ticket};
 use series::Series;
 use words::Wide;
 
@@ -26,19 +26,19 @@ pub fn ledger_size(f: Series) -> usize
     16 + 48 * series::formula::row_count(f)
 }
 
-// Opens a ledger for the run p, c. Whatever the bytes were, they become a fresh ledger.
-pub fn open(f: Series, p: u64, c: u64, ledger: &mut [u8]) -> Answer
-    ensures { Does (open_call (limits_of (formula_of f)) p c ledger.old) (answer_of result) (ledger.new ∷ []) }
+// Opens a ledger for a run. Whatever the bytes were, they become a fresh ledger.
+pub fn open(f: Series, run: Run, ledger: &mut [u8]) -> Answer
+    ensures { Does (open_call (limits_of (formula_of f)) run.p run.c ledger.old) (answer_of result) (ledger.new ∷ []) }
 {
     if ledger.len() != ledger_size(f) {
         return Err(Refusal::WrongSize);
     }
-    if !run::in_range(f, p, c) {
+    if !run::in_range(f, run) {
         return Err(Refusal::OutOfRange);
     }
     words::clear(ledger);
-    words::put(ledger, 0, 8, p);
-    words::put(ledger, 8, 2, c);
+    words::put(ledger, 0, 8, run.p);
+    words::put(ledger, 8, 2, run.c);
     Ok(0)
 }
 
@@ -51,35 +51,45 @@ pub struct Ledger<'a> {
 }
 
 impl<'a> Ledger<'a> {
+    // Its run.
+    #[tactic(auto, unfolding(crate::specs::Ledger::pos_in, crate::specs::Ledger::blocks_in))]
+    pub fn run(&self) -> Run
+        ensures { (result.p ≡ pos_in self.now.bytes.now) × (result.c ≡ blocks_in self.now.bytes.now) }
+    {
+        Run {
+            p: words::get(self.bytes, 0, 8),
+            c: words::get(self.bytes, 8, 2),
+        }
+    }
+
     // Whether it is in order.
     #[tactic(auto, unfolding(crate::specs::Ledger::in_order, crate::specs::Ledger::pos_in, crate::specs::Ledger::blocks_in))]
     pub fn in_order(&self) -> bool
         ensures { result ≡ in_order (limits_of (formula_of self.now.f)) self.now.bytes.now }
     {
-        let p = words::get(self.bytes, 0, 8);
-        let c = words::get(self.bytes, 8, 2);
-        run::in_range(self.f, p, c)
+        let run = self.run();
+        run::in_range(self.f, run)
             && words::get(self.bytes, 10, 6) == 0
-            && self.none_from(c as usize)
+            && self.none_from(run.c as usize)
     }
 
-    // Whether its run is p, c.
-    #[tactic(auto, unfolding(crate::specs::Ledger::pos_in, crate::specs::Ledger::blocks_in))]
-    pub fn same_run(&self, p: u64, c: u64) -> bool
-        ensures { result ≡ (eqb p (pos_in self.now.bytes.now) && eqb c (blocks_in self.now.bytes.now)) }
+    // Whether its run is the one that a call names.
+    pub fn same_run(&self, run: Run) -> bool
+        ensures { result ≡ (eqb run.p (pos_in self.now.bytes.now) && eqb run.c (blocks_in self.now.bytes.now)) }
     {
-        p == words::get(self.bytes, 0, 8) && c == words::get(self.bytes, 8, 2)
+        let own = self.run();
+        run.p == own.p && run.c == own.c
     }
 
-    // What the refusal table says of it, and of the run p, c that a call names.
+    // What the refusal table says of it, and of the run that a call names.
     #[tactic(auto, unfolding(run::specs::Refusal::refusal, run::specs::Refusal::answer, crate::specs::Ledger::view_of))]
-    pub fn test_ledger(&self, p: u64, c: u64) -> Result<(), Refusal>
-        ensures { verdict_of result ≡ tested (of_ledger (view_of (limits_of (formula_of self.now.f)) self.now.bytes.now) p c) }
+    pub fn test_ledger(&self, run: Run) -> Result<(), Refusal>
+        ensures { verdict_of result ≡ tested (of_ledger (view_of (limits_of (formula_of self.now.f)) self.now.bytes.now) run.p run.c) }
     {
         if !self.in_order() {
             return Err(Refusal::OutOfOrder);
         }
-        if !self.same_run(p, c) {
+        if !self.same_run(run) {
             return Err(Refusal::OtherRun);
         }
         Ok(())
@@ -99,7 +109,7 @@ pub fn enter(f: Series, ledger: &mut [u8], row: usize, block: usize, x: Wide)
 
 // What the refusal table says of a post of one ticket: its tests in the order of their numbers.
 pub fn test_post(f: Series, ledger: &[u8], t: Ticket, sum: &[u8]) -> Result<(), Refusal>
-    ensures { verdict_of result ≡ answered (post_call (limits_of (formula_of f)) ledger.now t.p t.c t.row t.block sum.now) }
+    ensures { verdict_of result ≡ answered (post_call (limits_of (formula_of f)) ledger.now t.run.p t.run.c t.row t.block sum.now) }
 {
     if ledger.len() != ledger_size(f) {
         return Err(Refusal::WrongSize);
@@ -109,7 +119,7 @@ pub fn test_post(f: Series, ledger: &[u8], t: Ticket, sum: &[u8]) -> Result<(), 
     }
     run::test_ticket(f, t)?;
     let ledger = Ledger { f, bytes: ledger };
-    ledger.test_ledger(t.p, t.c)?;
+    ledger.test_ledger(t.run)?;
     if ledger.bit_set(t.row as usize, t.block as usize) {
         return Err(Refusal::Marked);
     }
@@ -118,7 +128,7 @@ pub fn test_post(f: Series, ledger: &[u8], t: Ticket, sum: &[u8]) -> Result<(), 
 
 // Posts a ticket with its sum. All tests are done before a byte is written.
 pub fn post(f: Series, ledger: &mut [u8], t: Ticket, sum: &[u8]) -> Answer
-    ensures { Does (post_call (limits_of (formula_of f)) ledger.old t.p t.c t.row t.block sum.now) (answer_of result)
+    ensures { Does (post_call (limits_of (formula_of f)) ledger.old t.run.p t.run.c t.row t.block sum.now) (answer_of result)
         (ledger.new ∷ []) }
 {
     test_post(f, ledger, t, sum)?;

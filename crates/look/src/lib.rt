@@ -22,9 +22,10 @@ pub fn remaining(f: Series, ledger: &[u8], s: &[u8]) -> u32
     requires { answered (sheet_post_call (limits_of (formula_of f)) ledger.now s.now) ≡ pos 0 }
     ensures { result ≡ unmarked_in (limits_of (formula_of f)) (bytes_left (sheet_post_call (limits_of (formula_of f)) ledger.now s.now) 0) }
 {
-    let c = words::get(ledger, 8, 2) as usize;
+    let ledger = Ledger { f, bytes: ledger };
+    let c = ledger.run().c as usize;
     let tickets = series::formula::row_count(f) * c;
-    let marked = Ledger { f, bytes: ledger }.count(0, c);
+    let marked = ledger.count(0, c);
     let e = Sheet { bytes: s }.count();
     (tickets - marked - e) as u32
 }

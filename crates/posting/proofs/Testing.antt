@@ -131,7 +131,7 @@ module _ {lim : Limits} {v : View} {ledger s : List ℕ} {call : Call} (posts : 
       pub other_sheet : (r : Refusal) → a ≡ Err r → answer_of (Err r) ≡ answered call
       other_sheet = part_here _ a ea of_ledger_on from_sheet
 
-      module _ (w : ⊤) (f : a ≡ Ok w) (p C : ℕ) (ep : p ≡ field s 0 8) (eC : C ≡ field s 8 2)
+      module _ (w : ⊤) (f : a ≡ Ok w) (p C : ℕ) (ep : p ≡ sheet_pos s) (eC : C ≡ sheet_blocks s)
           (c : Verdict) (ec : verdict_of c ≡ tested (of_ledger v p C)) where
         form : SheetPassed lim s
         form = (sheet_passed lim s [] (part_passes _ a ea w f)).0
@@ -140,7 +140,6 @@ module _ {lim : Limits} {v : View} {ledger s : List ℕ} {call : Call} (posts : 
         from_ledger = part_past _ a ea of_ledger_on from_sheet refl w f
 
         made : verdict_of c ≡ tested (of_ledger v (sheet_pos s) (sheet_blocks s))
-        unfolding sheet_pos sheet_blocks
         made = ec ∙ ap₂ (λ (x y : ℕ). tested (of_ledger v x y)) ep eC
 
         pub other_ledger : (r : Refusal) → c ≡ Err r → answer_of (Err r) ≡ answered call

@@ -44,7 +44,7 @@ pub fn test_post(f: Series, ledger: &[u8], s: &[u8]) -> Result<(), Refusal>
     let sheet = Sheet { bytes: s };
     sheet.test_sheet(f)?;
     let ledger = Ledger { f, bytes: ledger };
-    ledger.test_ledger(words::get(s, 0, 8), words::get(s, 8, 2))?;
+    ledger.test_ledger(sheet.run())?;
     let entries = Entries {
         bytes: s,
         count: sheet.count(),

@@ -48,12 +48,19 @@ pub fn bound(count: u64, c: u64, i: u64) -> u64
     i * (count / c) + i * (count % c) / c
 }
 
-// Whether p and c are those of a run.
+// A run: its position, and its number of blocks.
+#[derive(Clone, Copy)]
+pub struct Run {
+    pub p: u64,
+    pub c: u64,
+}
+
+// Whether a run's position and number of blocks are within their limits.
 #[tactic(auto, unfolding(crate::specs::Run::in_range))]
-pub fn in_range(f: Series, p: u64, c: u64) -> bool
-    ensures { result ≡ in_range (limits_of (formula_of f)) p c }
+pub fn in_range(f: Series, run: Run) -> bool
+    ensures { result ≡ in_range (limits_of (formula_of f)) run.p run.c }
 {
-    1 <= p && p <= series::formula::last_position(f) && 1 <= c && c <= 256
+    1 <= run.p && run.p <= series::formula::last_position(f) && 1 <= run.c && run.c <= 256
 }
 
 // Whether the row and the block are those of a ticket, where there are c blocks.
@@ -64,11 +71,10 @@ pub fn is_ticket(f: Series, c: u64, row: u64, block: u64) -> bool
     row < series::formula::row_count(f) as u64 && block < c
 }
 
-// A ticket: the position and the number of blocks of its run, a row and a block.
+// A ticket of a run.
 #[derive(Clone, Copy)]
 pub struct Ticket {
-    pub p: u64,
-    pub c: u64,
+    pub run: Run,
     pub row: u64,
     pub block: u64,
 }
@@ -76,12 +82,12 @@ pub struct Ticket {
 // What the refusal table says of a run and one of its tickets.
 #[tactic(auto, unfolding(crate::specs::Refusal::refusal, crate::specs::Refusal::answer))]
 pub fn test_ticket(f: Series, t: Ticket) -> Result<(), Refusal>
-    ensures { verdict_of result ≡ tested (of_ticket (limits_of (formula_of f)) t.p t.c t.row t.block) }
+    ensures { verdict_of result ≡ tested (of_ticket (limits_of (formula_of f)) t.run.p t.run.c t.row t.block) }
 {
-    if !in_range(f, t.p, t.c) {
+    if !in_range(f, t.run) {
         return Err(Refusal::OutOfRange);
     }
-    if !is_ticket(f, t.c, t.row, t.block) {
+    if !is_ticket(f, t.run.c, t.row, t.block) {
         return Err(Refusal::NoTicket);
     }
     Ok(())

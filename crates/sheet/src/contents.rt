@@ -7,11 +7,11 @@ ghost use Rattle.series.specs.Names.{formula_of};
 ghost use Rattle.run.specs.Refusal.{tested};
 ghost use Rattle.run.specs.Run.{limits_of};
 ghost use Rattle.run.specs.Answers.{verdict_of};
-ghost use Rattle.sheet.specs.Sheet.{sheet_most, sheet_count, row_in, block_in, entries_from, all_tickets, well_formed};
+ghost use Rattle.sheet.specs.Sheet.{sheet_most, sheet_pos, sheet_blocks, sheet_count, row_in, block_in, entries_from, all_tickets, well_formed};
 ghost use Rattle.sheet.specs.Tests.{sheet_sized, of_sheet};
 ghost use Rattle.sheet.specs.Sheet as definition;
 
-use run::Refusal;
+use run::{Refusal, Run};
 use series::Series;
 use words::Wide;
 
@@ -127,6 +127,17 @@ impl<'a> Entries<'a> {
 }
 
 impl<'a> Sheet<'a> {
+    // Its run.
+    #[tactic(auto, unfolding(crate::specs::Sheet::sheet_pos, crate::specs::Sheet::sheet_blocks))]
+    pub fn run(&self) -> Run
+        ensures { (result.p ≡ sheet_pos self.now.bytes.now) × (result.c ≡ sheet_blocks self.now.bytes.now) }
+    {
+        Run {
+            p: words::get(self.bytes, 0, 8),
+            c: words::get(self.bytes, 8, 2),
+        }
+    }
+
     // How many tickets the head counts.
     #[tactic(auto, unfolding(crate::specs::Sheet::sheet_count))]
     pub fn count(&self) -> usize
@@ -152,12 +163,12 @@ impl<'a> Sheet<'a> {
     }
 
     // What the refusal table says of it where it has a size that a sheet can have: its run, its form and its tickets.
-    #[tactic(auto, unfolding(run::specs::Refusal::refusal, run::specs::Refusal::answer, crate::specs::Sheet::sheet_pos, crate::specs::Sheet::sheet_blocks, crate::specs::Sheet::entries))]
+    #[tactic(auto, unfolding(run::specs::Refusal::refusal, run::specs::Refusal::answer, crate::specs::Sheet::entries))]
     pub fn test_sheet(&self, f: Series) -> Result<(), Refusal>
         ensures { verdict_of result ≡ tested (of_sheet (limits_of (formula_of f)) self.now.bytes.now) }
     {
-        let c = two_bytes(self.bytes, 8);
-        if !run::in_range(f, words::get(self.bytes, 0, 8), c) {
+        let run = self.run();
+        if !run::in_range(f, run) {
             return Err(Refusal::OutOfRange);
         }
         if !self.well_formed() {
@@ -167,7 +178,7 @@ impl<'a> Sheet<'a> {
             bytes: self.bytes,
             count: self.count(),
         };
-        if !entries.all_tickets(f, c) {
+        if !entries.all_tickets(f, run.c) {
             return Err(Refusal::NoTicket);
         }
         Ok(())

@@ -6,15 +6,16 @@ ghost use Rattle.series.specs.Series.{Formula};
 ghost use Rattle.sheet.specs.Sheet.{listed, line, contents_of};
 
 use crate::lists::Pairs;
+use run::Run;
 use words::Wide;
 
 // Writes the head of a sheet of e tickets.
-pub fn put_head(p: u64, c: u64, e: u64, out: &mut [u8])
+pub fn put_head(run: Run, e: u64, out: &mut [u8])
     requires { 16 ≤ length out.old }
-    ensures { out.new ≡ bytes_of 8 p ++ bytes_of 2 c ++ bytes_of 2 e ++ bytes_of 4 0 ++ drop 16 out.old }
+    ensures { out.new ≡ bytes_of 8 run.p ++ bytes_of 2 run.c ++ bytes_of 2 e ++ bytes_of 4 0 ++ drop 16 out.old }
 {
-    words::put(out, 0, 8, p);
-    words::put(out, 8, 2, c);
+    words::put(out, 0, 8, run.p);
+    words::put(out, 8, 2, run.c);
     words::put(out, 10, 2, e);
     words::put(out, 12, 4, 0);
 }

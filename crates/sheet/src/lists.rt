@@ -10,7 +10,7 @@ ghost use Rattle.sheet.specs.Sheet.{list_most, listed, all_tickets};
 ghost use Rattle.sheet.specs.Sheet as definition;
 ghost use Rattle.sheet.specs.Tests.{list_sized, of_list};
 
-use run::Refusal;
+use run::{Refusal, Run};
 use series::Series;
 
 // The most bytes that a list can have.
@@ -90,21 +90,21 @@ impl<'a> Pairs<'a> {
 
 // What the refusal table says of a list that has its size: its run, its form and its tickets.
 #[tactic(auto, unfolding(run::specs::Refusal::refusal, run::specs::Refusal::answer))]
-pub fn test_list(f: Series, p: u64, c: u64, list: &[u8]) -> Result<(), Refusal>
+pub fn test_list(f: Series, run: Run, list: &[u8]) -> Result<(), Refusal>
     requires { list_sized (limits_of (formula_of f)) list.now ≡ true }
-    ensures { verdict_of result ≡ tested (of_list (formula_of f) p c list.now) }
+    ensures { verdict_of result ≡ tested (of_list (formula_of f) run.p run.c list.now) }
 {
     let pairs = Pairs {
         bytes: list,
         count: list.len() / 2,
     };
-    if !run::in_range(f, p, c) {
+    if !run::in_range(f, run) {
         return Err(Refusal::OutOfRange);
     }
     if !pairs.ascending() {
         return Err(Refusal::Malformed);
     }
-    if !pairs.all_tickets(f, c) {
+    if !pairs.all_tickets(f, run.c) {
         return Err(Refusal::NoTicket);
     }
     Ok(())

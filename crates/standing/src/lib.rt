@@ -66,10 +66,8 @@ pub fn write(f: Series, ledger: &[u8], book: &[u8], out: &mut [u8]) -> Answer
 {
     let size = test_standing(f, ledger, book, out)?;
     let e = (size as usize - 16) / 20;
-    let p = words::get(ledger, 0, 8);
-    let c = words::get(ledger, 8, 2);
-    layout::put_head(p, c, e as u64, out);
     let ledger = Ledger { f, bytes: ledger };
+    layout::put_head(ledger.run(), e as u64, out);
     put_tickets(&Books { ledger, book }, e, out);
     Ok(size)
 }

@@ -27,12 +27,12 @@ pub enum Part {
 
 // The terms of a part of a ticket. Both bounds are below 2^63, so their sum fits a word.
 pub fn range_of(f: Series, part: Part, t: Ticket) -> Range<u64>
-    requires { (in_range (limits_of (formula_of f)) t.p t.c ≡ true) × (t.block < t.c) }
-    ensures { (result.start ≡ part_first (formula_of f) part t.p t.c t.block) × (result.end ≡ part_end (formula_of f) part t.p t.c t.block) }
+    requires { (in_range (limits_of (formula_of f)) t.run.p t.run.c ≡ true) × (t.block < t.run.c) }
+    ensures { (result.start ≡ part_first (formula_of f) part t.run.p t.run.c t.block) × (result.end ≡ part_end (formula_of f) part t.run.p t.run.c t.block) }
 {
-    let count = series::terms::term_count(f, t.p);
-    let first = run::bound(count, t.c, t.block);
-    let end = run::bound(count, t.c, t.block + 1);
+    let count = series::terms::term_count(f, t.run.p);
+    let first = run::bound(count, t.run.c, t.block);
+    let end = run::bound(count, t.run.c, t.block + 1);
     let cut = (first + end) / 2;
     match part {
         Part::Whole => first..end,
@@ -43,30 +43,30 @@ pub fn range_of(f: Series, part: Part, t: Ticket) -> Range<u64>
 
 // The sum of a part of a ticket, and its squarings: of the whole first to last, of a half by halves.
 pub fn sum(f: Series, part: Part, t: Ticket) -> Worked
-    requires { (in_range (limits_of (formula_of f)) t.p t.c ≡ true) × (is_ticket (limits_of (formula_of f)) t.c t.row t.block ≡ true) }
-    ensures { (joined result.sum.hi result.sum.lo ≡ part_sum (formula_of f) part t.p t.c t.row t.block)
-        × (joined result.squarings.hi result.squarings.lo ≡ part_squarings (formula_of f) part t.p t.c t.row t.block) }
+    requires { (in_range (limits_of (formula_of f)) t.run.p t.run.c ≡ true) × (is_ticket (limits_of (formula_of f)) t.run.c t.row t.block ≡ true) }
+    ensures { (joined result.sum.hi result.sum.lo ≡ part_sum (formula_of f) part t.run.p t.run.c t.row t.block)
+        × (joined result.squarings.hi result.squarings.lo ≡ part_squarings (formula_of f) part t.run.p t.run.c t.row t.block) }
 {
     let range = range_of(f, part, t);
     match part {
-        Part::Whole => series::terms::range_sum(f, t.p, t.row, range.start, range.end),
-        _ => series::halves::range_sum(f, t.p, t.row, range.start, range.end),
+        Part::Whole => series::terms::range_sum(f, t.run.p, t.row, range.start, range.end),
+        _ => series::halves::range_sum(f, t.run.p, t.row, range.start, range.end),
     }
 }
 
 // The squarings of a part of a ticket, without its sum.
 pub fn squarings(f: Series, part: Part, t: Ticket) -> Wide
-    requires { (in_range (limits_of (formula_of f)) t.p t.c ≡ true) × (is_ticket (limits_of (formula_of f)) t.c t.row t.block ≡ true) }
-    ensures { joined result.hi result.lo ≡ part_squarings (formula_of f) part t.p t.c t.row t.block }
+    requires { (in_range (limits_of (formula_of f)) t.run.p t.run.c ≡ true) × (is_ticket (limits_of (formula_of f)) t.run.c t.row t.block ≡ true) }
+    ensures { joined result.hi result.lo ≡ part_squarings (formula_of f) part t.run.p t.run.c t.row t.block }
 {
     let range = range_of(f, part, t);
-    series::squarings::range_squarings(f, t.p, t.row, range.start, range.end)
+    series::squarings::range_squarings(f, t.run.p, t.row, range.start, range.end)
 }
 
 // What the refusal table says of working and of quoting: its tests in the order of their numbers.
 #[tactic(auto, unfolding(crate::specs::Work::part_tests, run::specs::Refusal::refusal, run::specs::Refusal::answer))]
 pub fn test_part(f: Series, t: Ticket, sized: bool) -> Result<(), Refusal>
-    ensures { verdict_of result ≡ tested (part_tests (formula_of f) t.p t.c t.row t.block sized) }
+    ensures { verdict_of result ≡ tested (part_tests (formula_of f) t.run.p t.run.c t.row t.block sized) }
 {
     if !sized {
         return Err(Refusal::WrongSize);
@@ -92,7 +92,7 @@ pub fn both_sized(out: &[u8], squarings: &[u8]) -> bool
 
 // Works a part of a ticket: writes its sum and its squarings into 16 bytes each. All tests are done before a byte is written.
 pub fn work(f: Series, part: Part, t: Ticket, out: &mut [u8], squarings: &mut [u8]) -> Answer
-    ensures { Does (work_call (formula_of f) part t.p t.c t.row t.block out.old squarings.old) (answer_of result)
+    ensures { Does (work_call (formula_of f) part t.run.p t.run.c t.row t.block out.old squarings.old) (answer_of result)
         (out.new ∷ squarings.new ∷ []) }
 {
     test_part(f, t, both_sized(out, squarings))?;
@@ -104,7 +104,7 @@ pub fn work(f: Series, part: Part, t: Ticket, out: &mut [u8], squarings: &mut [u
 
 // Quotes a part of a ticket: writes its squarings into 16 bytes.
 pub fn quote(f: Series, part: Part, t: Ticket, out: &mut [u8]) -> Answer
-    ensures { Does (quote_call (formula_of f) part t.p t.c t.row t.block out.old) (answer_of result) (out.new ∷ []) }
+    ensures { Does (quote_call (formula_of f) part t.run.p t.run.c t.row t.block out.old) (answer_of result) (out.new ∷ []) }
 {
     test_part(f, t, sized(out))?;
     words::put_wide(out, 0, squarings(f, part, t));

@@ -1,7 +1,7 @@
 // A line for each figure: what is asked, and what the engine's functions give. What they require is tested before the call; where it does
 // not hold, the line has no figure.
 use montgomery::Quotient;
-use run::Ticket;
+use run::{Run, Ticket};
 use series::Series;
 use std::io;
 use ticket::Part;
@@ -24,7 +24,7 @@ fn counted(rt: &impl Print, q: Quotient) -> io::Result<()> {
 pub fn counts(rt: &impl Print, f: Series, positions: &[u64]) -> io::Result<()> {
     for &p in positions {
         print!(rt; "{}count {p}", prefix(f))?;
-        if run::in_range(f, p, 1) {
+        if run::in_range(f, Run { p, c: 1 }) {
             print!(rt; " {}", series::terms::term_count(f, p))?;
         }
         rt.println("")?;
@@ -37,7 +37,7 @@ pub fn counts(rt: &impl Print, f: Series, positions: &[u64]) -> io::Result<()> {
 pub fn blocks(rt: &impl Print, f: Series, table: &[(u64, u64, u64)]) -> io::Result<()> {
     for &(p, c, i) in table {
         print!(rt; "{}block {p} {c} {i}", prefix(f))?;
-        if run::in_range(f, p, c) && i < c {
+        if run::in_range(f, Run { p, c }) && i < c {
             let count = series::terms::term_count(f, p);
             print!(rt;
                 " {} {}",
@@ -55,7 +55,7 @@ pub fn blocks(rt: &impl Print, f: Series, table: &[(u64, u64, u64)]) -> io::Resu
 pub fn terms(rt: &impl Print, f: Series, table: &[(u64, u64, u64)]) -> io::Result<()> {
     for &(p, row, k) in table {
         print!(rt; "{}term {p} {row} {k}", prefix(f))?;
-        if run::in_range(f, p, 1)
+        if run::in_range(f, Run { p, c: 1 })
             && row < series::formula::row_count(f) as u64
             && k < series::terms::term_count(f, p)
         {
@@ -94,7 +94,8 @@ fn work(
     print!(rt; "{}{name} {p} {c} {row} {block}", prefix(f))?;
     let mut sum = [0u8; 16];
     let mut squarings = [0u8; 16];
-    let t = Ticket { p, c, row, block };
+    let run = Run { p, c };
+    let t = Ticket { run, row, block };
     match ticket::work(f, part, t, &mut sum, &mut squarings) {
         Ok(_) => println!(rt;
             " {:032x} {:032x}",
@@ -116,7 +117,8 @@ fn quote(
     let (p, c, row, block) = ticket;
     print!(rt; "{}{name} {p} {c} {row} {block}", prefix(f))?;
     let mut squarings = [0u8; 16];
-    let t = Ticket { p, c, row, block };
+    let run = Run { p, c };
+    let t = Ticket { run, row, block };
     match ticket::quote(f, part, t, &mut squarings) {
         Ok(_) => println!(rt; " {:032x}", u128::from_be_bytes(squarings)),
         Err(r) => println!(rt; " refused {}", run::number_of(r)),

@@ -27,14 +27,6 @@ returns-in_err-test_sheet c =
     other_sheet (together _ _ _ _) _ c.sized-2.ensures (right_size _ _ _ _ c.sized.ensures c.if-not-sized.false) c.if-not-sized-2.false _
     c.test_sheet.ensures _ c.in_err-test_sheet.was)
 
-pub get-requires : goal.get-requires
-get-requires c =
-    (omega (arith, (sheet_fits _ _ (sym c.sized-2.ensures ∙ c.if-not-sized-2.false)).0), search rules)
-
-pub get-requires-2 : goal.get-requires-2
-get-requires-2 c =
-    (omega (arith, (sheet_fits _ _ (sym c.sized-2.ensures ∙ c.if-not-sized-2.false)).0), search rules)
-
 pub invariant_of-ledger : goal.invariant_of-ledger
 invariant_of-ledger c = record { sized = (with_book _ _ _).size (right_size _ _ _ _ c.sized.ensures c.if-not-sized.false) }
 
@@ -46,30 +38,30 @@ returns-in_err-test_book c =
     let p = err_from_is_err_and c.from_residual-in_err-test_book.result c.from_residual-in_err-test_book.ensures.1 in
     rw (p.1, p.2) (
     other_ledger (together _ _ _ _) _ c.sized-2.ensures (right_size _ _ _ _ c.sized.ensures c.if-not-sized.false) c.if-not-sized-2.false _
-    c.test_sheet.ensures _ c.in_ok-test_sheet.was _ _ c.get.ensures c.get-2.ensures _ c.test_book.ensures _
+    c.test_sheet.ensures _ c.in_ok-test_sheet.was _ _ c.run.ensures.0 c.run.ensures.1 _ c.test_book.ensures _
     c.in_err-test_book.was)
 
 pub invariant_of-entries : goal.invariant_of-entries
 invariant_of-entries c = record {
   room = (may_look (together _ _ _ _) _ c.sized-2.ensures (right_size _ _ _ _ c.sized.ensures c.if-not-sized.false) c.if-not-sized-2.false _
-      c.test_sheet.ensures _ c.in_ok-test_sheet.was _ _ c.get.ensures c.get-2.ensures _ c.test_book.ensures _
+      c.test_sheet.ensures _ c.in_ok-test_sheet.was _ _ c.run.ensures.0 c.run.ensures.1 _ c.test_book.ensures _
       c.in_ok-test_book.was _ c.count.ensures.0).0;
 }
 
 pub none_marked-requires : goal.none_marked-requires
 none_marked-requires c =
     (may_look (together _ _ _ _) _ c.sized-2.ensures (right_size _ _ _ _ c.sized.ensures c.if-not-sized.false) c.if-not-sized-2.false _
-    c.test_sheet.ensures _ c.in_ok-test_sheet.was _ _ c.get.ensures c.get-2.ensures _ c.test_book.ensures _
+    c.test_sheet.ensures _ c.in_ok-test_sheet.was _ _ c.run.ensures.0 c.run.ensures.1 _ c.test_book.ensures _
     c.in_ok-test_book.was _ c.count.ensures.0).2
 
 pub returns-then-not-none_marked : goal.returns-then-not-none_marked
 returns-then-not-none_marked c =
     one_marked (together _ _ _ _) _ c.sized-2.ensures (right_size _ _ _ _ c.sized.ensures c.if-not-sized.false) c.if-not-sized-2.false _
-    c.test_sheet.ensures _ c.in_ok-test_sheet.was _ _ c.get.ensures c.get-2.ensures _ c.test_book.ensures _
+    c.test_sheet.ensures _ c.in_ok-test_sheet.was _ _ c.run.ensures.0 c.run.ensures.1 _ c.test_book.ensures _
     c.in_ok-test_book.was _ c.count.ensures.0 _ c.none_marked.ensures c.if-not-none_marked.true
 
 pub returns : goal.returns
 returns c =
     admitted (together _ _ _ _) _ c.sized-2.ensures (right_size _ _ _ _ c.sized.ensures c.if-not-sized.false) c.if-not-sized-2.false _
-    c.test_sheet.ensures _ c.in_ok-test_sheet.was _ _ c.get.ensures c.get-2.ensures _ c.test_book.ensures _
+    c.test_sheet.ensures _ c.in_ok-test_sheet.was _ _ c.run.ensures.0 c.run.ensures.1 _ c.test_book.ensures _
     c.in_ok-test_book.was _ c.count.ensures.0 _ c.none_marked.ensures c.if-not-none_marked.false

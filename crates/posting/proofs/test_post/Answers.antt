@@ -30,30 +30,30 @@ returns-in_err-test_ledger c =
     let p = err_from_is_err_and c.from_residual-in_err-test_ledger.result c.from_residual-in_err-test_ledger.ensures.1 in
     rw (p.1, p.2) (
     other_ledger (alone _ _ _) _ c.sized.ensures (size_right _ _ (c.if-ledger-ledger_size.false ∙ c.ledger_size.ensures)) c.if-not-sized.false _
-    c.test_sheet.ensures _ c.in_ok-test_sheet.was _ _ c.get.ensures c.get-2.ensures _ c.test_ledger.ensures _
+    c.test_sheet.ensures _ c.in_ok-test_sheet.was _ _ c.run.ensures.0 c.run.ensures.1 _ c.test_ledger.ensures _
     c.in_err-test_ledger.was)
 
 pub invariant_of-entries : goal.invariant_of-entries
 invariant_of-entries c = record {
   room = (may_look (alone _ _ _) _ c.sized.ensures (size_right _ _ (c.if-ledger-ledger_size.false ∙ c.ledger_size.ensures)) c.if-not-sized.false _
-      c.test_sheet.ensures _ c.in_ok-test_sheet.was _ _ c.get.ensures c.get-2.ensures _ c.test_ledger.ensures _
+      c.test_sheet.ensures _ c.in_ok-test_sheet.was _ _ c.run.ensures.0 c.run.ensures.1 _ c.test_ledger.ensures _
       c.in_ok-test_ledger.was _ c.count.ensures.0).0;
 }
 
 pub none_marked-requires : goal.none_marked-requires
 none_marked-requires c =
     (may_look (alone _ _ _) _ c.sized.ensures (size_right _ _ (c.if-ledger-ledger_size.false ∙ c.ledger_size.ensures)) c.if-not-sized.false _
-    c.test_sheet.ensures _ c.in_ok-test_sheet.was _ _ c.get.ensures c.get-2.ensures _ c.test_ledger.ensures _
+    c.test_sheet.ensures _ c.in_ok-test_sheet.was _ _ c.run.ensures.0 c.run.ensures.1 _ c.test_ledger.ensures _
     c.in_ok-test_ledger.was _ c.count.ensures.0).2
 
 pub returns-then-not-none_marked : goal.returns-then-not-none_marked
 returns-then-not-none_marked c =
     one_marked (alone _ _ _) _ c.sized.ensures (size_right _ _ (c.if-ledger-ledger_size.false ∙ c.ledger_size.ensures)) c.if-not-sized.false _
-    c.test_sheet.ensures _ c.in_ok-test_sheet.was _ _ c.get.ensures c.get-2.ensures _ c.test_ledger.ensures _
+    c.test_sheet.ensures _ c.in_ok-test_sheet.was _ _ c.run.ensures.0 c.run.ensures.1 _ c.test_ledger.ensures _
     c.in_ok-test_ledger.was _ c.count.ensures.0 _ c.none_marked.ensures c.if-not-none_marked.true
 
 pub returns : goal.returns
 returns c =
     admitted (alone _ _ _) _ c.sized.ensures (size_right _ _ (c.if-ledger-ledger_size.false ∙ c.ledger_size.ensures)) c.if-not-sized.false _
-    c.test_sheet.ensures _ c.in_ok-test_sheet.was _ _ c.get.ensures c.get-2.ensures _ c.test_ledger.ensures _
+    c.test_sheet.ensures _ c.in_ok-test_sheet.was _ _ c.run.ensures.0 c.run.ensures.1 _ c.test_ledger.ensures _
     c.in_ok-test_ledger.was _ c.count.ensures.0 _ c.none_marked.ensures c.if-not-none_marked.false

@@ -40,7 +40,7 @@ module _ (F : Formula) (part : Part) (p C block K first end : ℕ) (k : K ≡ te
   upper e = rw e (at_cut, at-end)
 
 pub term_count-count-requires : goal.term_count-count-requires
-term_count-count-requires c = position _ _ c.args.t.c c.requires.0
+term_count-count-requires c = position _ _ c.args.t.run.c c.requires.0
 
 pub bound-first-requires : goal.bound-first-requires
 bound-first-requires c =

@@ -40,4 +40,4 @@ module _ (F : Formula) (p C : ℕ) (list old : List ℕ) (e : ℕ) where
         ∙ ap (λ (n : ℕ). take (16 + 4 * e) old ++ bodies_of (listed F p C list) ++ drop n old) end
 
 abbrev pub invariant-loop-i : goal.invariant-loop-i
-invariant-loop-i l = l.out ≡ summed-to (formula_of l.f) l.p l.c l.pairs.bytes.now l.initial.out l.pairs.count l.i
+invariant-loop-i l = l.out ≡ summed-to (formula_of l.f) l.run.p l.run.c l.pairs.bytes.now l.initial.out l.pairs.count l.i
