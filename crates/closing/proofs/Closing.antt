@@ -133,18 +133,15 @@ low_is F M p total r n h l e =
 
 -- ---- what the code reads of a ledger
 
-pub position_read : (F : Formula) (s : List ℕ) (p : ℕ) → Ordered (limits_of F) s → p ≡ field s 0 8 → Position F p
-unfolding pos_in
+pub position_read : (F : Formula) (s : List ℕ) (p : ℕ) → Ordered (limits_of F) s → p ≡ pos_in s → Position F p
 position_read F s p o e = subst (λ (n : ℕ). Position F n) (sym e) (ordered_position F s o.ordered)
 
-pub blocks_read : (lim : Limits) (s : List ℕ) (c : ℕ) → in_order lim s ≡ true → c ≡ field s 8 2 → c ≤ 256
-unfolding blocks_in
+pub blocks_read : (lim : Limits) (s : List ℕ) (c : ℕ) → in_order lim s ≡ true → c ≡ blocks_in s → c ≤ 256
 blocks_read lim s c o e = subst (λ (n : ℕ). n ≤ 256) (sym e) (ordered_blocks lim s o)
 
-pub full_read : (F : Formula) (s : List ℕ) (c : ℕ) (r : Bool) → c ≡ field s 8 2
+pub full_read : (F : Formula) (s : List ℕ) (c : ℕ) (r : Bool) → c ≡ blocks_in s
     → r ≡ all_below (row_count F) (λ row. all_below c (λ block. bit_in (limits_of F) s row block))
     → r ≡ all_below (row_count F) (λ row. all_below (blocks_in s) (λ block. bit_in (limits_of F) s row block))
-unfolding blocks_in
 full_read F s c r b e = rw b at e
 
 pub count_small : (f : Series) (p : ℕ) → Position (formula_of f) p → term_count (formula_of f) p ≤ 2 ^ 60
@@ -152,17 +149,16 @@ unfolding term_count
 count_small Bellard p h = omega (arith, h)
 count_small Check p h = omega (arith, h)
 
-module _ (F : Formula) (s : List ℕ) (p b T : ℕ) (p-is : p ≡ field s 0 8) (b-is : b ≡ charges is_charged F minus p (term_count F p))
+module _ (F : Formula) (s : List ℕ) (p b T : ℕ) (p-is : p ≡ pos_in s) (b-is : b ≡ charges is_charged F minus p (term_count F p))
     (T-is : T ≡ total_in (limits_of F) s) where
   pub settle_is : (a d : ℕ) → a ≡ charges is_charged F plus p (term_count F p) → d ≡ settled (sub_ℕ T (b + 1)) (pos (T + a + 1)) → d ≡ settled_at is_charged F (pos_in s) (total_in (limits_of F) s)
-  unfolding settled_at low high pos_in
+  unfolding settled_at low high
   settle_is a d a-is e = rw (b-is, a-is, p-is, T-is) at e
 
   pub lower_is : (r x : ℕ) → (settled_at is_charged F (pos_in s) (total_in (limits_of F) s) ≡ 0 → ⊥) → T < 2 ^ 128 → r < 2 ^ 128 → x ≡ b + 1 → (r + x) % 2 ^ 128 ≡ T
       → low_of is_charged F (pos_in s) (total_in (limits_of F) s) ≡ pos r
-  unfolding pos_in
   lower_is r x n t l x_is e =
-      low_is F (2 ^ 128) (field s 0 8) (total_in (limits_of F) s) r n (subst (λ (m : ℕ). m < 2 ^ 128) T-is t) l (rw (x_is, b-is, p-is, T-is) at e)
+      low_is F (2 ^ 128) (pos_in s) (total_in (limits_of F) s) r n (subst (λ (m : ℕ). m < 2 ^ 128) T-is t) l (rw (x_is, b-is, p-is, T-is) at e)
 
 -- ---- what has been tested where nothing is refused
 

@@ -161,11 +161,11 @@ module _ (lim : Limits) (ledger book out : List ℕ) where
           counted = let n = w.1 in omega (arith, n);
         }
 
-    pub written : (size p C : ℕ) (o₁ o₂ : List ℕ) → a ≡ Ok size → p ≡ field ledger 0 8 → C ≡ field ledger 8 2
+    pub written : (size p C : ℕ) (o₁ o₂ : List ℕ) → a ≡ Ok size → p ≡ pos_in ledger → C ≡ blocks_in ledger
         → o₁ ≡ bytes_of 8 p ++ bytes_of 2 C ++ bytes_of 2 ((size - 16) / 20) ++ bytes_of 4 0 ++ drop 16 out
         → o₂ ≡ take 16 o₁ ++ contents_of (standing_in lim ledger book) ++ bodies_of (standing_in lim ledger book) ++ drop (16 + 20 * ((size - 16) / 20)) o₁
         → Does this (pos size) (o₂ ∷ [])
-    unfolding standing_call standing_sheet pos_in blocks_in
+    unfolding standing_call standing_sheet
     written size p C o₁ o₂ f ep eC e₁ e₂ =
         let ts = standing_in lim ledger book in
         let d = works this a made size f in

@@ -24,13 +24,13 @@ pub invariant_of-ledger : goal.invariant_of-ledger
 invariant_of-ledger c = record { sized = c.if-ledger-ledger_size.false ∙ c.ledger_size.ensures }
 
 pub all_below-requires : goal.all_below-requires
-all_below-requires c = blocks_read _ c.args.ledger.now _ (sym c.in_order.ensures ∙ c.if-not-in_order.false) c.get-c.ensures
+all_below-requires c = blocks_read _ c.args.ledger.now _ (sym c.in_order.ensures ∙ c.if-not-in_order.false) c.run.ensures.1
 
 pub returns-then-not-all_below : goal.returns-then-not-all_below
 returns-then-not-all_below c =
     unmarked _ _ _ (c.if-ledger-ledger_size.false ∙ c.ledger_size.ensures) c.if-digits-ne32.false
     (sym c.in_order.ensures ∙ c.if-not-in_order.false)
-    (sym (full_read (formula_of c.args.f) _ _ _ c.get-c.ensures c.all_below.ensures) ∙ c.if-not-all_below.true)
+    (sym (full_read (formula_of c.args.f) _ _ _ c.run.ensures.1 c.all_below.ensures) ∙ c.if-not-all_below.true)
 
 pub invariant_of-settle : goal.invariant_of-settle
 invariant_of-settle c = record {
@@ -44,7 +44,7 @@ pub returns-then-d-eq0 : goal.returns-then-d-eq0
 returns-then-d-eq0 c =
     unsettled _ _ _ (c.if-ledger-ledger_size.false ∙ c.ledger_size.ensures) c.if-digits-ne32.false
     (sym c.in_order.ensures ∙ c.if-not-in_order.false)
-    (sym (full_read (formula_of c.args.f) _ _ _ c.get-c.ensures c.all_below.ensures) ∙ c.if-not-all_below.false)
+    (sym (full_read (formula_of c.args.f) _ _ _ c.run.ensures.1 c.all_below.ensures) ∙ c.if-not-all_below.false)
     (sym c.settle-d.ensures ∙ c.if-d-eq0.true)
 
 pub overflow_cast-result : goal.overflow_cast-result
@@ -58,5 +58,5 @@ returns c =
     ap pos c.settle-d.ensures
     ∙ closes _ _ _ (c.if-ledger-ledger_size.false ∙ c.ledger_size.ensures) c.if-digits-ne32.false
     (sym c.in_order.ensures ∙ c.if-not-in_order.false)
-    (sym (full_read (formula_of c.args.f) _ _ _ c.get-c.ensures c.all_below.ensures) ∙ c.if-not-all_below.false)
+    (sym (full_read (formula_of c.args.f) _ _ _ c.run.ensures.1 c.all_below.ensures) ∙ c.if-not-all_below.false)
     (λ z. c.if-d-eq0.false (c.settle-d.ensures ∙ z))

@@ -40,38 +40,35 @@ pub returns : goal.returns
 unfolding AllBytes blocks_in
 returns c =
     let k = counted c.args.f c.args.ledger.now c.args.s.now _ _ _ _ (λ i. (c.type_inv.ledger i).fits) c.requires c.row_count.ensures.counts c.row_count.ensures.few
-    c.get-c.ensures c.count-e.ensures.0 c.count-marked.ensures in
+    c.run-c.ensures.1 c.count-e.ensures.0 c.count-marked.ensures in
     let all = k.all in
     omega (arith, all)
-
-pub get-c-requires : goal.get-c-requires
-get-c-requires c = let t = (is_taken _ _ _ c.requires).sized in (omega (arith, t), omega arith)
 
 pub overflow_mul-tickets : goal.overflow_mul-tickets
 unfolding blocks_in
 overflow_mul-tickets c =
     let C = (is_taken _ _ _ c.requires).few_blocks in
-    let few_blocks : c.get-c.result ≤ 256 = omega (arith, C, c.get-c.ensures) in
+    let few_blocks : c.run-c.result.c ≤ 256 = omega (arith, C, c.run-c.ensures.1) in
     let wide = mul-le-mul_left c.row_count.result few_blocks in
     record { fits = omega (arith, wide, c.row_count.ensures.few) }
 
-pub invariant_of-count : goal.invariant_of-count
-invariant_of-count c = record { sized = (is_taken _ _ _ c.requires).sized }
+pub invariant_of-ledger : goal.invariant_of-ledger
+invariant_of-ledger c = record { sized = (is_taken _ _ _ c.requires).sized }
 
 pub count-marked-requires : goal.count-marked-requires
 unfolding blocks_in
 count-marked-requires c =
     let t = is_taken _ _ _ c.requires in
-    (omega arith, let C = t.few_blocks in omega (arith, C, c.get-c.ensures))
+    (omega arith, let C = t.few_blocks in omega (arith, C, c.run-c.ensures.1))
 
-pub invariant_of-count-2 : goal.invariant_of-count-2
-invariant_of-count-2 c = let t = (is_taken _ _ _ c.requires).whole in record { head = omega (arith, t) }
+pub invariant_of-count : goal.invariant_of-count
+invariant_of-count c = let t = (is_taken _ _ _ c.requires).whole in record { head = omega (arith, t) }
 
 pub overflow_sub-result : goal.overflow_sub-result
 unfolding AllBytes blocks_in
 overflow_sub-result c =
     let k = counted c.args.f c.args.ledger.now c.args.s.now _ _ _ _ (λ i. (c.type_inv.ledger i).fits) c.requires c.row_count.ensures.counts c.row_count.ensures.few
-    c.get-c.ensures c.count-e.ensures.0 c.count-marked.ensures in
+    c.run-c.ensures.1 c.count-e.ensures.0 c.count-marked.ensures in
     let all = k.all in
     let wide = k.wide in
     omega (arith, all, wide)
@@ -80,7 +77,7 @@ pub overflow_sub-result-2 : goal.overflow_sub-result-2
 unfolding AllBytes blocks_in
 overflow_sub-result-2 c =
     let k = counted c.args.f c.args.ledger.now c.args.s.now _ _ _ _ (λ i. (c.type_inv.ledger i).fits) c.requires c.row_count.ensures.counts c.row_count.ensures.few
-    c.get-c.ensures c.count-e.ensures.0 c.count-marked.ensures in
+    c.run-c.ensures.1 c.count-e.ensures.0 c.count-marked.ensures in
     let all = k.all in
     omega (arith, all)
 
@@ -88,7 +85,7 @@ pub overflow_cast-result : goal.overflow_cast-result
 unfolding AllBytes blocks_in
 overflow_cast-result c =
     let k = counted c.args.f c.args.ledger.now c.args.s.now _ _ _ _ (λ i. (c.type_inv.ledger i).fits) c.requires c.row_count.ensures.counts c.row_count.ensures.few
-    c.get-c.ensures c.count-e.ensures.0 c.count-marked.ensures in
+    c.run-c.ensures.1 c.count-e.ensures.0 c.count-marked.ensures in
     let all = k.all in
     let wide = k.wide in
     let few = k.few in

@@ -10,16 +10,6 @@ overflow_sub-e c =
     let h = none_applied _ _ _ _ _ c.test_standing.ensures _ c.in_ok-size.was in
     omega (arith, h.size_is)
 
-pub get-p-requires : goal.get-p-requires
-get-p-requires c =
-    let h = none_applied _ _ _ _ _ c.test_standing.ensures _ c.in_ok-size.was in
-    (omega (arith, h.ledger_has), omega arith)
-
-pub get-c-requires : goal.get-c-requires
-get-c-requires c =
-    let h = none_applied _ _ _ _ _ c.test_standing.ensures _ c.in_ok-size.was in
-    (omega (arith, h.ledger_has), omega arith)
-
 pub put_head-requires : goal.put_head-requires
 put_head-requires c =
     let h = none_applied _ _ _ _ _ c.test_standing.ensures _ c.in_ok-size.was in
@@ -38,7 +28,7 @@ put_tickets-requires c =
 
 pub returns : goal.returns
 returns c =
-    written _ _ _ _ _ c.test_standing.ensures _ _ _ _ _ c.in_ok-size.was c.get-p.ensures c.get-c.ensures
+    written _ _ _ _ _ c.test_standing.ensures _ _ _ _ _ c.in_ok-size.was c.run.ensures.0 c.run.ensures.1
     c.put_head.ensures c.put_tickets.ensures
 
 pub returns-in_err-size : goal.returns-in_err-size

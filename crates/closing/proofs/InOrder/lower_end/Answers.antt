@@ -8,13 +8,13 @@ use Rattle.closing.proofs.InOrder.lower_end.Goals as goal
 
 pub in_run-b-requires : goal.in_run-b-requires
 in_run-b-requires c =
-    position_read _ c.args.self.now.ledger.bytes.now _ c.args.self.now.ordered c.get.ensures
+    position_read _ c.args.self.now.ledger.bytes.now _ c.args.self.now.ordered c.run.ensures.0
 
 pub returns : goal.returns
 returns c =
     let h : (c.total.result.hi < 2 ^ 64) × (c.total.result.lo < 2 ^ 64) = search rules in
     let l : (c.sub.result.hi < 2 ^ 64) × (c.sub.result.lo < 2 ^ 64) = search rules in
-    lower_is _ c.args.self.now.ledger.bytes.now _ _ _ c.get.ensures c.in_run-b.ensures.counts c.total.ensures _ _
+    lower_is _ c.args.self.now.ledger.bytes.now _ _ _ c.run.ensures.0 c.in_run-b.ensures.counts c.total.ensures _ _
     c.requires
     (joined_lt _ _ h.0 h.1) (joined_lt _ _ l.0 l.1)
     (joined_low _) c.sub.ensures
