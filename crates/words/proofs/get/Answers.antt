@@ -1,50 +1,55 @@
--- `words::get` meets its contract: x is the number in the bytes from at + i on, which is below 256 to their count.
+-- `words::get` meets its contract: what was read stands above the bytes that are left.
 -- Assumes nothing.
-use Rattle.std.proofs.Common.{◌≡◌, ℕ, suc, ◌+◌, ◌-◌, ◌*◌, ◌^◌, ◌<◌, ◌≤◌, List, length, get_or, sym, ap, ◌∙◌, add-zero, pow-suc, arith}
+use Rattle.std.proofs.Common.{◌≡◌, ℕ, ◌+◌, ◌*◌, ◌-◌, ◌^◌, ◌<◌, ◌≤◌, List, [], ◌∷◌, ◌++◌, length, get_or, take, drop, refl, ap, ◌∙◌, arith, length-append, mul-le-mul_right, pow-add}
 use native.Mathlib.Nat.{pow-le-pow_right}
-use Rattle.words.specs.Bytes.{field}
-use Rattle.words.proofs.Bytes.{field_next, field_none}
+use Rattle.words.specs.Bytes.{value_of, field, AllBytes}
+use Rattle.words.proofs.Bytes.{value_append, field_lt}
 use Rattle.words.proofs.get.Goals as goal
 
--- a turn: one byte more below
-bound : (w i x b : ℕ) → w ≤ 8 → 0 < i → i ≤ w → x < 256 ^ (w - i) → b < 256 → (x * 256 + b < 256 ^ (w - (i - 1))) × (x * 256 + b < 2 ^ 64)
-bound w i x b h p l m n =
-    let e : w - (i - 1) ≡ suc (w - i) = omega arith in
-    let u : 256 ^ (w - (i - 1)) ≡ 256 ^ (w - i) * 256 = ap (λ (k : ℕ). 256 ^ k) e ∙ pow-suc 256 (w - i) in
-    let v : 256 ^ (w - (i - 1)) ≤ 256 ^ 8 = pow-le-pow_right {n = 256} (omega arith) {j = 8} (omega arith) in
-    (omega arith, omega arith)
+-- a turn takes the uppermost byte that is left
+turn : (value x b y : ℕ) (old rest : List ℕ) → old ≡ rest ++ b ∷ [] → y ≡ b → value ≡ value_of old + 256 ^ length old * x
+    → value ≡ value_of rest + 256 ^ length rest * (x * 256 + y)
+unfolding value_of
+turn value x b y old rest e f h =
+    let p = rw (e, length-append, value_append, pow-add) at h in
+    rw f (omega (arith, p))
 
-turn : (s : List ℕ) (at w i x : ℕ) → at + w ≤ length s → 0 < i → i ≤ w → x ≡ field s (at + i) (w - i)
-    → x * 256 + get_or s (at + (i - 1)) 0 ≡ field s (at + (i - 1)) (w - (i - 1))
-turn s at w i x h p l e =
-    let a : at + (i - 1) + 1 ≡ at + i = omega arith in
-    let b : w - i + 1 ≡ w - (i - 1) = omega arith in
-    let f = rw (a, b) at (field_next s (at + (i - 1)) (w - i) (omega arith)) in
-    omega (arith, f)
+-- a field of 8 bytes or fewer is a word, and so is what was read of it
+fits : (s : List ℕ) (at w v low k : ℕ) → ((i : ℕ) → get_or s i 0 < 256) → w ≤ 8 → field s at w ≡ low + 256 ^ k * v → v < 2 ^ 64
+unfolding AllBytes
+fits s at w v low k bytes h e =
+    let l = field_lt s at w bytes in
+    let m = pow-le-pow_right {n = 256} (omega arith) {j = 8} h in
+    let o = pow-le-pow_right {n = 256} (omega arith) {i = 0} {j = k} (omega arith) in
+    let p : 1 * v ≤ 256 ^ k * v = mul-le-mul_right v o in
+    omega (arith, l, m, p)
 
-pub loop-i-init : goal.loop-i-init
-loop-i-init c =
-    let none : c.args.width - c.args.width ≡ 0 = omega arith in
-    (omega arith, rw none (omega arith), rw none (sym (field_none _ _)))
+-- nothing is read yet
+begun : (s part : List ℕ) (at w : ℕ) → part ≡ take (at + w - at) (drop at s) → field s at w ≡ value_of part + 256 ^ length part * 0
+unfolding field
+begun s part at w e = let all : at + w - at ≡ w = omega arith in rw (e, all) (omega arith)
+
+-- nothing is left
+ended : (value x : ℕ) (rest : List ℕ) → length rest ≡ 0 → value ≡ value_of rest + 256 ^ length rest * x → x ≡ value
+unfolding value_of
+ended value x [] e h = omega (arith, h)
+ended value x (b ∷ rest) e h = absurd (omega (arith, e))
+
+pub loop-byte-init : goal.loop-byte-init
+loop-byte-init c =
+    begun _ _ _ _ (ap (λ i. i.iter.rest.now) c.into_iter-byte-iterator.ensures.into_iter_gives ∙ ap (λ i. i.rest.now) c.rev-byte-items.ensures.source ∙ c.iter.ensures.rest)
 
 pub overflow_mul-x : goal.overflow_mul-x
 overflow_mul-x c =
-    let l = c.loop-i in
-    omega (arith, bound c.args.width l.i l.x 0 c.requires.1 (omega arith) l.invariant.0 l.invariant.1 (omega arith))
+    let h = fits c.args.s.now c.args.at c.args.width _ _ _ (λ i. (c.type_inv.s i).fits) c.requires.1 (turn _ _ _ _ _ _ c.in-Some.ensures.steps refl c.loop-byte.invariant) in
+    omega (arith, h)
 
-pub overflow_cast-x : goal.overflow_cast-x
-overflow_cast-x c = omega (arith, c.type_inv.s (c.args.at + (c.loop-i.i - 1)))
+pub overflow_add-x : goal.overflow_add-x
+overflow_add-x c =
+    record { fits = fits c.args.s.now c.args.at c.args.width _ _ _ (λ i. (c.type_inv.s i).fits) c.requires.1 (turn _ _ _ _ _ _ c.in-Some.ensures.steps c.from.ensures c.loop-byte.invariant) }
 
-pub overflow_add-x-in-loop-i : goal.overflow_add-x-in-loop-i
-overflow_add-x-in-loop-i c = omega (arith, (let fits_here : let l = c.loop-i in let v = l.x * 256 + get_or c.args.s.now (c.args.at + (l.i - 1)) 0 in (v < 256 ^ (c.args.width - (l.i - 1))) × (v < 2 ^ 64) = let l = c.loop-i in let byte : get_or c.args.s.now (c.args.at + (l.i - 1)) 0 < 256 = omega (arith, c.type_inv.s (c.args.at + (l.i - 1))) in bound c.args.width l.i l.x _ c.requires.1 (omega arith) l.invariant.0 l.invariant.1 byte in fits_here))
-
-pub loop-i-preserved : goal.loop-i-preserved
-loop-i-preserved c =
-    let l = c.loop-i in
-    (omega arith, ((let fits_here : let l = c.loop-i in let v = l.x * 256 + get_or c.args.s.now (c.args.at + (l.i - 1)) 0 in (v < 256 ^ (c.args.width - (l.i - 1))) × (v < 2 ^ 64) = let l = c.loop-i in let byte : get_or c.args.s.now (c.args.at + (l.i - 1)) 0 < 256 = omega (arith, c.type_inv.s (c.args.at + (l.i - 1))) in bound c.args.width l.i l.x _ c.requires.1 (omega arith) l.invariant.0 l.invariant.1 byte in fits_here)).0, turn _ _ _ l.i _ c.requires.0 (omega arith) l.invariant.0 l.invariant.2)
+pub loop-byte-preserved : goal.loop-byte-preserved
+loop-byte-preserved c = turn _ _ _ _ _ _ c.in-Some.ensures.steps c.from.ensures c.loop-byte.invariant
 
 pub returns : goal.returns
-returns c =
-    let none : c.loop-i.i ≡ 0 = omega arith in
-    let all : c.args.width - 0 ≡ c.args.width = omega arith in
-    rw (none, add-zero, all) at c.loop-i.invariant.2
+returns c = ended _ _ _ c.in-None.ensures.steps.0 c.loop-byte.invariant

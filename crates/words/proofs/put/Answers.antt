@@ -1,40 +1,41 @@
--- `words::put` meets its contract: after i turns the first i bytes of x stand there, and the rest is x / 256^i.
+-- `words::put` meets its contract: the bytes before the index are those of x, and the rest is x without them.
 -- Assumes nothing.
-use Rattle.std.proofs.Common.{◌≡◌, ℕ, ◌/◌, ◌%◌, ◌^◌, ◌<◌, sym, refl, ap, ◌∙◌, pow-suc, div-one, add-one, arith, length-set}
+use Rattle.std.proofs.Common.{◌≡◌, ℕ, ◌+◌, ◌-◌, ◌/◌, ◌%◌, ◌^◌, ◌<◌, ◌≢◌, List, length, get_or, set, take, drop, sym, ap, ◌∙◌, pow-suc, add-one, arith, length-take, length-drop, get_or-set_other, get_or-set_same, below_more}
 use native.Mathlib.Nat.{div-div-eq-div-mul}
-use Rattle.words.proofs.Bytes.{paste_step, paste_full, length_bytes, bytes_at}
-use lib.Seq.{paste, paste-zero}
+use lib.Seq.{ext_get_or}
+use Rattle.std.proofs.lemmas.Slice.{put_mid-paste}
+use Rattle.words.proofs.Bytes.{length_bytes, bytes_at, paste_full}
 use Rattle.words.specs.Bytes.{bytes_of}
 use Rattle.words.proofs.put.Goals as goal
 
-pub loop-i-init : goal.loop-i-init
-loop-i-init c = (omega arith, refl, sym (div-one _), paste-zero c.args.s.now c.args.at (bytes_of c.args.width c.args.x))
+-- one byte more
+lower : (x i rest : ℕ) → rest ≡ x / 256 ^ i → rest / 256 ≡ x / 256 ^ (i + 1)
+lower x i rest e =
+    ap (λ (n : ℕ). n / 256) e ∙ div-div-eq-div-mul x (256 ^ i) 256
+    ∙ ap (λ (n : ℕ). x / n) (sym (pow-suc 256 i) ∙ ap (λ (n : ℕ). 256 ^ n) (sym (add-one i)))
 
-pub loop-i-preserved : goal.loop-i-preserved
-loop-i-preserved c =
-    let s₀ = c.args.s.now in
-    let at = c.args.at in
-    let w = c.args.width in
-    let x = c.args.x in
-    let i = c.loop-i.i in
-    let h : i < w = omega arith in (
-      omega arith,
-      simp length-set c.loop-i.invariant.1,
-      ap (λ (n : ℕ). n / 256) c.loop-i.invariant.2 ∙ div-div-eq-div-mul x (256 ^ i) 256 ∙ ap (λ (n : ℕ). x / n) (sym (pow-suc 256 i) ∙ ap (λ (n : ℕ). 256 ^ n) (sym (add-one i))),
-      paste_step s₀ at (bytes_of w x) c.loop-i.s i _ (omega arith) (omega (arith, length_bytes w x))
-          (bytes_at w x i h ∙ ap (λ (n : ℕ). n % 256) (sym c.loop-i.invariant.2)) c.loop-i.invariant.3,
-    )
+written : (w x i rest : ℕ) (items : List ℕ) → length items ≡ w → i < w → rest ≡ x / 256 ^ i
+    → ((k : ℕ) → k < i → get_or items k 0 ≡ get_or (bytes_of w x) k 0)
+    → (k : ℕ) → k < i + 1 → get_or (set items i (rest % 256)) k 0 ≡ get_or (bytes_of w x) k 0
+written w x i rest items l h e before =
+    below_more _ _
+    (λ k m. let ne : k ≢ i = omega arith in rw get_or-set_other (before k m))
+    (let lt : i < length items = omega arith in rw get_or-set_same (ap (λ (n : ℕ). n % 256) e ∙ sym (bytes_at w x i h)))
 
-pub shape_of-s : goal.shape_of-s
-shape_of-s c = c.loop-i.invariant.1
+pub loop-byte-preserved : goal.loop-byte-preserved
+loop-byte-preserved c =
+    let size : length (take (c.args.at + c.args.width - c.args.at) (drop c.args.at c.args.s.now)) ≡ c.args.width =
+    omega (arith, length-take {A = ℕ}, length-drop {A = ℕ}) in
+    record {
+      rest = lower _ _ _ c.loop-byte.invariant.rest;
+      written = written _ _ _ _ _ (c.loop-byte.auto.byte-items ∙ size) (omega arith) c.loop-byte.invariant.rest c.loop-byte.invariant.written;
+    }
 
 pub returns : goal.returns
 returns c =
-    let s₀ = c.args.s.now in
-    let at = c.args.at in
-    let w = c.args.width in
-    let x = c.args.x in
-    let e : c.loop-i.i ≡ w = omega arith in
-    c.loop-i.invariant.3
-    ∙ ap (paste s₀ at (bytes_of w x)) e
-    ∙ paste_full s₀ at (bytes_of w x) w (length_bytes w x)
+    let size : length (take (c.args.at + c.args.width - c.args.at) (drop c.args.at c.args.s.now)) ≡ c.args.width =
+    omega (arith, length-take {A = ℕ}, length-drop {A = ℕ}) in
+    let all : c.loop-byte.byte-items ≡ bytes_of c.args.width c.args.x =
+    ext_get_or 0 _ _ (c.loop-byte.auto.byte-items ∙ size ∙ sym (length_bytes c.args.width c.args.x)) (λ k h. c.loop-byte.invariant.written k (omega arith)) in
+    put_mid-paste _ _ _ _ (bytes_of c.args.width c.args.x) c.args.width all (omega arith) (sym (length_bytes c.args.width c.args.x))
+    ∙ paste_full c.args.s.now c.args.at (bytes_of c.args.width c.args.x) c.args.width (length_bytes c.args.width c.args.x)
