@@ -1,10 +1,10 @@
 // A residue with the number of squarings that it took. The count is private: only the functions of this file make one, and of these
 // `square` alone counts.
 ghost use Rattle.std.specs.Prelude.{◌≡◌, ◌+◌, ◌*◌, ◌%◌, ◌^◌, ◌<◌, ◌≤◌};
-ghost use Rattle.montgomery.specs.Modulus.{Modulus};
 ghost use Rattle.montgomery.specs.Standing.{Started};
 
 use crate::MontgomeryResidue;
+use crate::modulus::Modulus;
 
 #[derive(Clone, Copy)]
 pub struct Counted {
@@ -31,12 +31,12 @@ pub fn start(n: u64) -> Counted
 }
 
 // The square, with one squaring more.
-pub fn square(x: Counted, n: u64, mu: u64) -> Counted
-    requires { (x.residue.0 < n) × Modulus n mu × (x.squarings < 64) }
-    ensures { (result.residue.0 < n) × (result.residue.0 * 2 ^ 64 % n ≡ x.residue.0 * x.residue.0 % n) × (result.squarings ≡ x.squarings + 1) }
+pub fn square(x: Counted, m: Modulus) -> Counted
+    requires { (x.residue.0 < m.n) × (x.squarings < 64) }
+    ensures { (result.residue.0 < m.n) × (result.residue.0 * 2 ^ 64 % m.n ≡ x.residue.0 * x.residue.0 % m.n) × (result.squarings ≡ x.squarings + 1) }
 {
     Counted {
-        residue: crate::square(x.residue, n, mu),
+        residue: crate::square(x.residue, m),
         squarings: x.squarings + 1,
     }
 }
