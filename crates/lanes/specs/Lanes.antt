@@ -17,20 +17,20 @@ at l j = get_or l j 0
 abbrev pub one : Modulus
 one = record { n = 1; mu = 0xffff_ffff_ffff_ffff; valid = record { positive = lit< tt; small = lit< tt; negated = refl } }
 
+abbrev pub none : Counted
+none = record { residue = record { 0 = 0 }; squarings = 0 }
+
+abbrev pub nothing : Quotient
+nothing = record { value = record { hi = 0; lo = 0 }; squarings = 0 }
+
 -- the modulus of lane j
 abbrev pub modulus : List Modulus → ℕ → Modulus
 modulus l j = get_or l j one
-
-abbrev pub none : Counted
-none = record { residue = record { 0 = 0 }; squarings = 0 }
 
 -- the residue of lane j, with its count
 abbrev pub lane : List Counted → ℕ → Counted
 lane l j = get_or l j none
 
 -- the quotient of lane j
-abbrev pub nothing : Quotient
-nothing = record { value = record { hi = 0; lo = 0 }; squarings = 0 }
-
 abbrev pub quotient : List Quotient → ℕ → Quotient
 quotient l j = get_or l j nothing

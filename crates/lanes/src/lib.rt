@@ -9,8 +9,10 @@ ghost use Rattle.lanes.specs.Lanes.{Each, at, modulus, lane, quotient};
 use montgomery::Quotient;
 use montgomery::counted::Counted;
 use montgomery::modulus::Modulus;
+use std::array;
 
-// 2 in Montgomery form in each lane.
+// 2 in Montgomery form in each lane. Only `start` makes a `Counted`, so the array begins with that of lane 0 in all lanes.
+// With `from_fn`, as `moduli` has it, the search leaves goals about the closure here and in `quotients`, which the loops do not have.
 pub fn starts(m: [Modulus; 8]) -> [Counted; 8]
     ensures { Each (λ j. Started (modulus m j).n (lane result j)) }
 {
@@ -51,11 +53,7 @@ pub fn moduli(n: [u64; 8]) -> [Modulus; 8]
     requires { Each (λ j. (at n j % 2 ≡ 1) × (at n j < 2 ^ 63)) }
     ensures { Each (λ j. (modulus result j).n ≡ at n j) }
 {
-    let mut m = [Modulus::new(n[0]); 8];
-    for j in 1..8 {
-        m[j] = Modulus::new(n[j]);
-    }
-    m
+    array::from_fn(|j| Modulus::new(n[j]))
 }
 
 // The quotient of each lane, where its residue stands for 2^f.
