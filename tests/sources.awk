@@ -334,10 +334,10 @@ function compare_quote(name,    seen, callee, many) {
     check(many > 0, name ": does not come to series::squarings")
 }
 
-# What the kit gives: a function or a method of numbers, slices, iterators and the like. A method that an impl here has
-# is collected with its source.
+# What the kit gives: a function or a method of numbers, arrays, slices, iterators and the like. A method that an impl
+# here has is collected with its source, and a closure is read where it is written.
 function of_kit(callee) {
-    return callee ~ /^(std::num::[a-z0-9_]+|u(8|16|32|64|size)::[a-z0-9_]+|\.[a-z0-9_]+)$/
+    return callee ~ /^(std::(num|array)::[a-z0-9_]+|u(8|16|32|64|size)::[a-z0-9_]+|\.[a-z0-9_]+)$/
 }
 
 # Working comes to both powers, and to no quote: a count is made and not looked up.
