@@ -114,7 +114,7 @@ pub fn top(e: u64) -> u32
     requires { 0 < e }
     ensures { result + 1 ≡ bit_length e }
 {
-    63 - u64::leading_zeros(e)
+    e.ilog2()
 }
 
 // Algorithm 5 from its line 5 on: 2^e in Montgomery form. `start` takes the top bit of e, and each bit below it
