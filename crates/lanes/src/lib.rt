@@ -16,9 +16,9 @@ use std::array;
 pub fn starts(m: [Modulus; 8]) -> [Counted; 8]
     ensures { Each (λ j. Started (modulus m j).n (lane result j)) }
 {
-    let mut x = [montgomery::counted::start(m[0].n); 8];
+    let mut x = [montgomery::counted::start(m[0]); 8];
     for j in 1..8 {
-        x[j] = montgomery::counted::start(m[j].n);
+        x[j] = montgomery::counted::start(m[j]);
     }
     x
 }
