@@ -131,6 +131,7 @@ pub fn clear(s: &mut [u8])
 }
 
 // Writes the lowest `width` bytes of x, from `at` on. They may be more than the 8 of `to_le_bytes`: the others are 0.
+#[tactic(auto, using(crate::proofs::Loops::lower, crate::proofs::Loops::written, crate::proofs::Loops::wrote))]
 pub fn put(s: &mut [u8], at: usize, width: usize, x: u64)
     requires { at + width ≤ length s.old }
     ensures { s.new ≡ take at s.old ++ bytes_of width x ++ drop (at + width) s.old }
@@ -143,6 +144,7 @@ pub fn put(s: &mut [u8], at: usize, width: usize, x: u64)
 }
 
 // The number in `width` bytes from `at` on, read from the top.
+#[tactic(auto, using(crate::proofs::Loops::turn, crate::proofs::Loops::fits, crate::proofs::Loops::begun, crate::proofs::Loops::ended))]
 pub fn get(s: &[u8], at: usize, width: usize) -> u64
     requires { (at + width ≤ length s.now) × (width ≤ 8) }
     ensures { result ≡ field s.now at width }
