@@ -118,7 +118,6 @@ pub fn top(e: u64) -> u32
 
 // Algorithm 5 from its line 5 on: 2^e in Montgomery form. `start` takes the top bit of e, and each bit below it
 // squares, and doubles where it is set.
-
 pub fn power(e: u64, m: Modulus) -> Counted
     requires { 0 < e }
     ensures { PowerOf m.n e result }

@@ -166,7 +166,6 @@ pub fn put_wide(s: &mut [u8], at: usize, x: Wide)
 }
 
 // The number in the 16 bytes from `at` on.
-
 pub fn get_wide(s: &[u8], at: usize) -> Wide
     requires { at + 16 ≤ length s.now }
     ensures { joined result.hi result.lo ≡ field s.now at 16 }
