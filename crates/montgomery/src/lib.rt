@@ -43,7 +43,7 @@ pub fn refine(n: u64, x: u64) -> u64
     ensures { (result + x * (n * x)) % 2 ^ 64 ≡ 2 * x % 2 ^ 64 }
 {
     let y = words::wrapping_mul(n, x);
-    words::wrapping_mul(x, std::num::wrapping_sub_u64(2, y))
+    words::wrapping_mul(x, 2u64.wrapping_sub(y))
 }
 
 // Algorithm 4: the inverse of n modulo 2^64. (3n) xor 2 is right to 5 bits, and each step doubles that.
