@@ -1,6 +1,6 @@
 # sources.awk - what sources.sh asks of the sources, all of which it reads. A function is named by its crate and module,
-# as crate::module::function; which functions it calls is read from its body. Prints the number of checks, or the first
-# that fails on standard error.
+# as crate::module::function, and one of an impl by its type as well, as crate::module::Type::function; which functions
+# it calls is read from its body. Prints the number of checks, or the first that fails on standard error.
 
 FNR == 1 { module = module_of(FILENAME) }
 
@@ -11,29 +11,35 @@ FNR == 1 { module = module_of(FILENAME) }
 
 /^(pub )?use / { read_use($0) }
 
+FNR == 1 { type = "" }
+/^impl/ { type = type_of($0) }
+
 /(^|[^A-Za-z0-9_])fn [A-Za-z_]/ {
-    if ($0 !~ /^(pub )?(extern "" )?fn /) fail(FILENAME ":" FNR ": a function that does not start its line")
+    if ($0 !~ ("^" margin() "(pub )?(extern \"\" )?fn ")) fail(FILENAME ":" FNR ": a function that does not start its line")
     name = $0
     sub(/^.*fn /, "", name)
     sub(/(<'a>)?\(.*/, "", name)
-    name = module "::" name
+    if (type != "") methods["." name] = methods["." name] " " module "::" type "::" name
+    name = module "::" (type == "" ? "" : type "::") name
     signature[name] = $0
     if (name in known) fail(name ": written twice")
     known[name]
+    if (/\{.*\}/) fail(name ": a body in the line of its name")
     inside = /\{ *$/
     next
 }
 
-/^\}/ { inside = 0 }
+/^\}/ { type = "" }
+$0 ~ ("^" margin() "\\}") || /^\}/ { inside = 0 }
 !inside && module == "montgomery::counted" && /squarings: / { count_is = $0 }
-inside { body[name] = body[name] " " $0 }
-/^\{/ { inside = 1 }
+inside { body[name] = body[name] " " of_type($0) }
+$0 ~ ("^" margin() "\\{") { inside = 1 }
 
 END {
     if (failed) exit 1
     for (name in body) body[name] = joined(name, body[name])
-    compare_loop("montgomery::power")
-    compare_loop("lanes::powers")
+    compare_loop("montgomery::power", "top(e)")
+    compare_loop("lanes::powers", "montgomery::top(e[0])")
     compare_lanes("lanes::turns")
     compare_turn("montgomery::turn")
     compare_counted("montgomery::counted::double")
@@ -71,9 +77,29 @@ function module_of(file,    path, i, below) {
     return path[i - 1] below
 }
 
+# The module of a function, also of one of an impl.
 function module_in(name) {
-    sub(/::[^:]*$/, "", name)
+    sub(/(::[A-Z][A-Za-z0-9]*)?::[^:]*$/, "", name)
     return name
+}
+
+# What stands before a function: an impl's are set in.
+function margin() {
+    return type == "" ? "" : "    "
+}
+
+# The type that an impl is of, without its parameters.
+function type_of(line) {
+    while (gsub(/<[^<>]*>/, "", line)) continue
+    sub(/ *\{ *\}? *$/, "", line)
+    sub(/.*[ :]/, "", line)
+    return line
+}
+
+# A line of an impl, where Self is its type.
+function of_type(line) {
+    if (type != "") gsub(/Self::/, type "::", line)
+    return line
 }
 
 function crate_of(name) {
@@ -110,6 +136,7 @@ function joined(name, text) {
 # macro with a mark behind: neither has a source here. A capital letter is a struct's or a variant's.
 function called(text, module,    list, name) {
     gsub(/::<[^<>]*>/, "", text)
+    gsub(/\.\.=?/, " ", text)
     while (match(text, /[.A-Za-z_][A-Za-z0-9_:.]*!? ?\(/)) {
         name = substr(text, RSTART, RLENGTH - 1)
         text = substr(text, RSTART + RLENGTH)
@@ -131,7 +158,8 @@ function full(path, module,    head, rest) {
     return path
 }
 
-# Collects in seen[] the functions of the list, those that they call, and so on.
+# Collects in seen[] the functions of the list, those that they call, and so on. Which type a method is called at is not
+# read, so that the methods of that name are all collected.
 function reach(list, seen,    todo, many, part, k, name) {
     split("", seen)
     many = split(list, todo, " ")
@@ -141,6 +169,7 @@ function reach(list, seen,    todo, many, part, k, name) {
         seen[name]
         if (name in known)
             for (k = split(called(body[name], module_in(name)), part, " "); k > 0; k--) todo[++many] = part[k]
+        if (name in methods) for (k = split(methods[name], part, " "); k > 0; k--) todo[++many] = part[k]
     }
 }
 
@@ -172,27 +201,27 @@ function changes(text, variable) {
         gsub("&mut " variable "([^A-Za-z0-9_]|$)", "", text)
 }
 
-# Whether a text's one branch is the loop of that head, and the step in it all that changes the counter once it is made.
-function counts(text, counter, head, step,    loop) {
-    if (branches(text) != " while" || !index(text, head " {")) return 0
-    loop = block(text, head)
-    return index(" " loop, " " step) && changes(loop, counter) == 1 && changes(text, counter) == 2
+# Whether a text's one branch is the loop of that head, and nothing in it gives the counter another value.
+function counts(text, counter, head) {
+    return branches(text) == " for" && index(text, head " {") && changes(block(text, head), counter) == 0
 }
 
 # The same of a loop up to a number that is written there.
 function counts_up(text,    word) {
-    if (!match(text, /while [a-z]+ < [0-9]+ \{/)) return 0
+    if (!match(text, /for [a-z]+ in 0\.\.[0-9]+ \{/)) return 0
     split(substr(text, RSTART), word, " ")
-    return counts(text, word[2], substr(text, RSTART, RLENGTH - 2), word[2] " += 1;")
+    return counts(text, word[2], substr(text, RSTART, RLENGTH - 2))
 }
 
-# The loop of a power counts down the bits. Neither it nor what it comes to has a branch more, but loops over lanes.
-function compare_loop(name,    text, seen, callee, wanted, k) {
+# The loop of a power counts down the bits below the top one. Neither it nor what it comes to has a branch more, but
+# loops over lanes.
+function compare_loop(name, top,    text, head, seen, callee, wanted, k) {
     check(name in known, name ": no source")
     text = body[name]
-    check(branches(text) == " while", name ": the branches" branches(text) ", not one while")
-    check(counts(text, "i", "while i > 0", "i -= 1;"), name ": the loop does not count i down to 0")
-    reach(called(block(text, "while i > 0"), module_in(name)), seen)
+    head = "for i in (0.." top ").rev()"
+    check(branches(text) == " for", name ": the branches" branches(text) ", not one for")
+    check(counts(text, "i", head), name ": the loop does not count i down to 0")
+    reach(called(block(text, head), module_in(name)), seen)
     for (callee in seen) {
         check(callee in known, callee ": called in the loop of " name ", and has no source")
         check(branches(body[callee]) == "" || crate_of(callee) == "lanes" && counts_up(body[callee]), \
@@ -227,13 +256,13 @@ function compare_turn(name,    part, many, bit) {
     many = split(body[name], part, /; /)
     bit = name_of(part[1], "(e >> i) & 1")
     check(bit != "", name ": the bit is not (e >> i) & 1: " part[1])
-    check(many == 2 && part[2] == "crate::counted::double(crate::counted::square(x, n, mu), " bit ", n)", \
+    check(many == 2 && part[2] == "crate::counted::double(crate::counted::square(x, m), " bit ", m)", \
         name ": not the square doubled by the bit: " part[2])
 }
 
 function compare_counted(name) {
     compare_plain(name, body[name])
-    check(index(body[name], "residue: crate::double(x.residue, bit, n)"), name ": not the residue doubled by the bit")
+    check(index(body[name], "residue: crate::double(x.residue, bit, m)"), name ": not the residue doubled by the bit")
 }
 
 # Shifted by the bit, N subtracted with wrapping, and the smaller of the two.
@@ -242,7 +271,7 @@ function compare_doubling(name,    part, many, shifted, less) {
     many = split(body[name], part, /; /)
     shifted = name_of(part[1], "x.0 << bit")
     check(shifted != "", name ": not shifted by the bit: " part[1])
-    less = name_of(part[2], "words::wrapping_sub(" shifted ", n)")
+    less = name_of(part[2], "words::wrapping_sub(" shifted ", m.n)")
     check(less != "", name ": not N subtracted with wrapping: " part[2])
     check(many == 3 && part[3] == "MontgomeryResidue(smaller(" shifted ", " less "))", \
         name ": not the smaller of the two: " part[3])
@@ -257,9 +286,9 @@ function compare_count(module,    name) {
     for (name in body)
         if (body[name] ~ /(^|[^A-Za-z0-9_])Counted \{/)
             check(name ~ ("^" module "::(start|square|double)$"), name ": makes a residue with a count")
-    compare_made(module "::start", "crate::start(n)", "0")
-    compare_made(module "::square", "crate::square(x.residue, n, mu)", "x.squarings + 1")
-    compare_made(module "::double", "crate::double(x.residue, bit, n)", "x.squarings")
+    compare_made(module "::start", "crate::start(m)", "0")
+    compare_made(module "::square", "crate::square(x.residue, m)", "x.squarings + 1")
+    compare_made(module "::double", "crate::double(x.residue, bit, m)", "x.squarings")
 }
 
 function compare_made(name, residue, count) {
@@ -305,12 +334,17 @@ function compare_quote(name,    seen, callee, many) {
     check(many > 0, name ": does not come to series::squarings")
 }
 
+# What the kit gives: a function or a method of numbers, arrays, slices, iterators and the like. A method that an impl
+# here has is collected with its source, and a closure is read where it is written.
+function of_kit(callee) {
+    return callee ~ /^(std::(num|array)::[a-z0-9_]+|u(8|16|32|64|size)::[a-z0-9_]+|\.[a-z0-9_]+)$/
+}
+
 # Working comes to both powers, and to no quote: a count is made and not looked up.
 function compare_work(name,    seen, callee) {
     reach(name, seen)
     for (callee in seen) {
-        check(callee in known || callee ~ /^(std::num::[a-z0-9_]+|u64::leading_zeros|\.len)$/, \
-            name ": comes to " callee ", which has no source")
+        check(callee in known || of_kit(callee), name ": comes to " callee ", which has no source")
         check(!is_quote(callee), name ": comes to the quote " callee)
     }
     check("montgomery::power" in seen, name ": does not come to montgomery::power")

@@ -75,15 +75,19 @@ in_power="called in the loop of $power, and has"
 in_powers="called in the loop of $powers, and has"
 damaged $power 's/fn power/fn other/' "$power: no source"
 damaged $powers 's/fn powers/fn other/' "$powers: no source"
-damaged $power 's/while i > 0/while i > 0 \&\& e > 1/' "$power: the branches while &&, not one while"
-damaged $power 's/x = turn.*/x = if e > 1 { & } else { x };/' "$power: the branches while if else, not one while"
-damaged $power 's/while i > 0/while e > 0/' "$power: the loop does not count i down to 0"
-damaged $power 's/i -= 1;/i -= 1 + (n \& 1);/' "$power: the loop does not count i down to 0"
-damaged $power 's/i -= 1;/& i = next(i);/' "$power: the loop does not count i down to 0"
+damaged $power 's/for i in .*\{/while i > 0 \&\& e > 1 {/' "$power: the branches while &&, not one for"
+damaged $power 's/for i in .*\{/while i > 0 {/' "$power: the branches while, not one for"
+damaged $power 's/x = turn.*/x = if e > 1 { & } else { x };/' "$power: the branches for if else, not one for"
+damaged $power 's/top\(e\)/e/' "$power: the loop does not count i down to 0"
+damaged $power 's/\(0\.\./(m.n \& 1../' "$power: the loop does not count i down to 0"
+damaged $power 's/\.rev\(\)/&.step_by(2)/' "$power: the loop does not count i down to 0"
+damaged $power 's/\.rev\(\)//' "$power: the loop does not count i down to 0"
+damaged $power 's/x = turn/let i = next(i); &/' "$power: the loop does not count i down to 0"
+damaged $power 's/x = turn/next(\&mut i); &/' "$power: the loop does not count i down to 0"
 damaged $power 's/x = turn\(/x = other(/' "montgomery::other: $in_power no source"
-damaged $power 's/x = turn\(.*/x = crate::counted::square(x, n, mu);/' ": not called in the loop of $power"
-damaged $powers 's/x = y;/if i > 1 { x = y; }/' "$powers: the branches while if, not one while"
-damaged $powers 's/while i > 0/while e[0] > 0/' "$powers: the loop does not count i down to 0"
+damaged $power 's/x = turn\(.*/x = crate::counted::square(x, m);/' ": not called in the loop of $power"
+damaged $powers 's/x = y;/if i > 1 { x = y; }/' "$powers: the branches for if, not one for"
+damaged $powers 's/e\[0\]/e[1]/' "$powers: the loop does not count i down to 0"
 damaged $powers 's/turns\(x.*\)/x/' ": not called in the loop of $powers"
 damaged montgomery::square 's/hi \+ \(lo != 0\) as u64/if lo != 0 { hi + 1 } else { hi }/' \
     "montgomery::square: $in_power the branches if else"
@@ -97,7 +101,7 @@ damaged montgomery::counted::square 's/x\.squarings \+ 1/if n > 1 { & } else { 0
     "montgomery::counted::square: $in_power the branches if else"
 damaged montgomery::square 's/words::wrapping_sub\(/std::num::wrapping_sub_u64(/' \
     "std::num::wrapping_sub_u64: $in_power no source"
-damaged montgomery::square 's/words::wrapping_sub\(sum, n\)/sum.wrapping_sub(n)/' ".wrapping_sub: $in_power no source"
+damaged montgomery::square 's/words::wrapping_sub\(sum, m\.n\)/sum.wrapping_sub(m.n)/' ".wrapping_sub: $in_power no source"
 damaged montgomery::square 's/let q = /assert!(n > 1); &/' "assert!: $in_power no source"
 damaged words::wrapping_sub 's/wrapping_sub/wrapping_difference/' "words::wrapping_sub: $in_power no source"
 damaged montgomery::square 's/let q = /let two = series::formula::step(lo); &/' \
@@ -112,32 +116,44 @@ for path in crate::counted::chosen counted::chosen chosen; do
     in_function montgomery::square "s/let q = .*/& let s = $path(q);/"
     told "montgomery::counted::chosen: $in_power the branches if else"
 done
-damaged lanes::turns 's/y\[j\] = .*/if i > 1 { & }/' "lanes::turns: $in_powers the branches while if"
-damaged lanes::turns 's/while j < 8/while j < many/' "lanes::turns: $in_powers the branches while"
-damaged lanes::turns 's/j \+= 1;/j += 1 + (e[j] \& 1) as usize;/' "lanes::turns: $in_powers the branches while"
-damaged lanes::turns 's/j \+= 1;/& words::mul_high(\&mut j, i);/' "lanes::turns: $in_powers the branches while"
-damaged lanes::turns 's/y\[j\] = /let q = montgomery::divide(i, 3, 5); &/' \
+with montgomery::modulus 'impl Residue {
+    pub fn chosen(x: u64) -> u64 {
+        if x > 1 { Self::other(x) } else { 1 }
+    }
+
+    fn other(x: u64) -> u64 {
+        x
+    }
+}'
+in_function montgomery::square "s/let q = .*/& let s = crate::modulus::Residue::chosen(q);/"
+told "montgomery::modulus::Residue::chosen: $in_power the branches if else"
+damaged lanes::turns 's/x\[j\] = .*/if i > 1 { & }/' "lanes::turns: $in_powers the branches for if"
+damaged lanes::turns 's/0\.\.8/0..many/' "lanes::turns: $in_powers the branches for"
+damaged lanes::turns 's/0\.\.8/(e[0] as usize \& 1)..8/' "lanes::turns: $in_powers the branches for"
+damaged lanes::turns 's/x\[j\] = /let j = j \& 3; &/' "lanes::turns: $in_powers the branches for"
+damaged lanes::turns 's/x\[j\] = /words::mul_high(\&mut j, i); &/' "lanes::turns: $in_powers the branches for"
+damaged lanes::turns 's/x\[j\] = /let q = montgomery::divide(i, m[j]); &/' \
     "montgomery::divide: $in_powers the branches if"
 
 # The bit, and the doubling by it.
-damaged lanes::turns 's/, e\[j\]/, e[(n[j] \& 7) as usize]/' "lanes::turns: has a ["
+damaged lanes::turns 's/, e\[j\]/, e[(m[j].n \& 7) as usize]/' "lanes::turns: has a ["
 damaged montgomery::turn 's/\(e >> i\) & 1/(e \/ (1 << i)) \& 1/' "montgomery::turn: has a /"
 damaged montgomery::turn 's/\(e >> i\) & 1/(e >> i) % 2/' "montgomery::turn: has a %"
 damaged montgomery::turn 's/\(e >> i\) & 1/((e >> i) \& 3) >> 1/' "montgomery::turn: the bit is not (e >> i) & 1"
-damaged montgomery::turn 's/bit, n\)/1, n)/' "montgomery::turn: not the square doubled by the bit"
-damaged montgomery::counted::double 's/(crate::double\(x.residue, )bit, n\)/[x.residue, \11, n)][bit as usize]/' \
+damaged montgomery::turn 's/bit, m\)/1, m)/' "montgomery::turn: not the square doubled by the bit"
+damaged montgomery::counted::double 's/(crate::double\(x.residue, )bit, m\)/[x.residue, \11, m)][bit as usize]/' \
     "montgomery::counted::double: has a ["
-damaged montgomery::counted::double 's/bit, n\),/1, n),/' \
+damaged montgomery::counted::double 's/bit, m\),/1, m),/' \
     "montgomery::counted::double: not the residue doubled by the bit"
-damaged montgomery::double 's/x\.0 << bit/(&) % n/' "montgomery::double: has a %"
+damaged montgomery::double 's/x\.0 << bit/(&) % m.n/' "montgomery::double: has a %"
 damaged montgomery::double 's/x\.0 << bit/[x.0, x.0 + x.0][bit as usize]/' "montgomery::double: has a ["
 damaged montgomery::double 's/x\.0 << bit/x.0 * (1 + bit)/' "montgomery::double: has a *"
 damaged montgomery::double 's/x\.0 << bit/x.0 + (x.0 \& words::wrapping_sub(0, bit))/' \
     "montgomery::double: not shifted by the bit"
-damaged montgomery::double 's/\(y, n\)/(x.0, n)/' "montgomery::double: not N subtracted with wrapping"
-damaged montgomery::double 's/words::wrapping_sub\(y, n\)/y - n/' "montgomery::double: not N subtracted with wrapping"
+damaged montgomery::double 's/\(y, m\.n\)/(x.0, m.n)/' "montgomery::double: not N subtracted with wrapping"
+damaged montgomery::double 's/words::wrapping_sub\(y, m\.n\)/y - m.n/' "montgomery::double: not N subtracted with wrapping"
 damaged montgomery::double 's/smaller\(y, z\)/smaller(z, y)/' "montgomery::double: not the smaller of the two"
-damaged montgomery::double 's/smaller\(y, z\)/z + (z >> 63) \& n/' "montgomery::double: not the smaller of the two"
+damaged montgomery::double 's/smaller\(y, z\)/z + (z >> 63) \& m.n/' "montgomery::double: not the smaller of the two"
 cp "$(file_of words)" "$(file_of montgomery::words)"
 in_module montgomery 's/^use words::Wide;/use crate::words;\n&/'
 told "montgomery::double: calls montgomery::words::wrapping_sub montgomery::smaller"
@@ -145,7 +161,7 @@ told "montgomery::double: calls montgomery::words::wrapping_sub montgomery::smal
 # The count.
 in_module montgomery::counted 's/^    squarings: u64,/    pub squarings: u64,/'
 told "montgomery::counted::Counted: the count is not private"
-damaged $power 's/crate::counted::start\(n\)/Counted { residue: start(n), squarings: 0 }/' \
+damaged $power 's/crate::counted::start\(m\)/Counted { residue: start(m), squarings: 0 }/' \
     "$power: makes a residue with a count"
 damaged montgomery::counted::squarings 's/x\.squarings/Counted { residue: x.residue, squarings: 63 }.squarings/' \
     "montgomery::counted::squarings: makes a residue with a count"
@@ -181,6 +197,17 @@ damaged series::terms::range_sum 's/Worked \{.*\}/crate::squarings::range_squari
 in_module series::terms 's/^use crate::Series;/&\nuse crate::squarings::reaching;/'
 damaged series::terms::size 's/let e = /let c = reaching(numbers, 128); &/' \
     "${work}_work: comes to the quote series::squarings::reaching"
+with words 'impl Wide {
+    pub fn bill(self) -> u64 {
+        Self::quoted(self)
+    }
+
+    fn quoted(x: Wide) -> u64 {
+        ticket::quote(x)
+    }
+}'
+in_function ticket::sum 's/let range = /let bill = first.bill(); &/'
+told "${work}_work: comes to the quote "
 for call in work work_lower work_upper check_work check_work_lower check_work_upper; do
     damaged ${work}_$call 's/ticket::work\(/ticket::quote(/' "${work}_$call: comes to the quote "
 done
@@ -207,6 +234,10 @@ damaged engine::overlaps::bbp_overlap_part 's/overlap::overlap_part\(/overlap::p
 # What is not read.
 in_module words 's/^pub fn add/    &/'
 told "a function that does not start its line"
+in_module words 's/^    fn from/    &/'
+told "a function that does not start its line"
+in_module words 's/^    fn from.*/& Wide { hi: 0, lo: word } }/'
+told "words::Wide::from: a body in the line of its name"
 in_function montgomery::smaller 's/let wrapped/if z > y {\n}\n&/'
 told "montgomery::smaller: braces that do not match"
 with montgomery::counted "$chosen"

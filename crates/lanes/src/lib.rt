@@ -3,88 +3,67 @@
 
 ghost use Rattle.std.specs.Prelude.{◌≡◌, ◌+◌, ◌%◌, ◌^◌, ◌≤◌, ◌<◌};
 ghost use Rattle.algebra.specs.Bits.{bit_length};
-ghost use Rattle.montgomery.specs.Modulus.{Modulus};
 ghost use Rattle.montgomery.specs.Standing.{Started, Standing, PowerOf, QuotientOf, PowerQuotient};
-ghost use Rattle.lanes.specs.Lanes.{Each, at, lane, quotient};
+ghost use Rattle.lanes.specs.Lanes.{Each, at, modulus, lane, quotient};
 
 use montgomery::Quotient;
 use montgomery::counted::Counted;
-use words::Wide;
+use montgomery::modulus::Modulus;
+use std::array;
 
-// 2 in Montgomery form in each lane.
-pub fn starts(n: [u64; 8]) -> [Counted; 8]
-    requires { Each (λ j. (0 < at n j) × (at n j < 2 ^ 63)) }
-    ensures { Each (λ j. Started (at n j) (lane result j)) }
+// 2 in Montgomery form in each lane. Only `start` makes a `Counted`, so the array begins with that of lane 0 in all lanes.
+// With `from_fn`, as `moduli` has it, the search leaves goals about the closure here and in `quotients`, which the loops do not have.
+pub fn starts(m: [Modulus; 8]) -> [Counted; 8]
+    ensures { Each (λ j. Started (modulus m j).n (lane result j)) }
 {
-    let first = montgomery::counted::start(n[0]);
-    let mut x = [first; 8];
-    let mut j: usize = 1;
-    while j < 8 {
-        x[j] = montgomery::counted::start(n[j]);
-        j += 1;
+    let mut x = [montgomery::counted::start(m[0]); 8];
+    for j in 1..8 {
+        x[j] = montgomery::counted::start(m[j]);
     }
     x
 }
 
 // The turn of each lane for bit i of its exponent.
-pub fn turns(x: [Counted; 8], e: [u64; 8], i: u32, n: [u64; 8], mu: [u64; 8]) -> [Counted; 8]
-    requires { Each (λ j. Modulus (at n j) (at mu j) × Standing (at n j) (at e j) (i + 1) (lane x j)) }
-    ensures { Each (λ j. Standing (at n j) (at e j) i (lane result j)) }
+pub fn turns(mut x: [Counted; 8], e: [u64; 8], i: u32, m: [Modulus; 8]) -> [Counted; 8]
+    requires { Each (λ j. Standing (modulus m j).n (at e j) (i + 1) (lane x j)) }
+    ensures { Each (λ j. Standing (modulus m j).n (at e j) i (lane result j)) }
 {
-    let mut y = x;
-    let mut j: usize = 0;
-    while j < 8 {
-        y[j] = montgomery::turn(y[j], e[j], i, n[j], mu[j]);
-        j += 1;
+    for j in 0..8 {
+        x[j] = montgomery::turn(x[j], e[j], i, m[j]);
     }
-    y
+    x
 }
 
 // 2^e in Montgomery form in each lane, for exponents of one bit length.
-pub fn powers(e: [u64; 8], n: [u64; 8], mu: [u64; 8]) -> [Counted; 8]
-    requires { Each (λ j. Modulus (at n j) (at mu j) × (0 < at e j) × (bit_length (at e j) ≡ bit_length (at e 0))) }
-    ensures { Each (λ j. PowerOf (at n j) (at e j) (lane result j)) }
+pub fn powers(e: [u64; 8], m: [Modulus; 8]) -> [Counted; 8]
+    requires { Each (λ j. (0 < at e j) × (bit_length (at e j) ≡ bit_length (at e 0))) }
+    ensures { Each (λ j. PowerOf (modulus m j).n (at e j) (lane result j)) }
 {
-    let mut x = starts(n);
-    let mut i: u32 = montgomery::top(e[0]);
-    while i > 0 {
-        i -= 1;
-        let y = turns(x, e, i, n, mu);
+    let mut x = starts(m);
+    for i in (0..montgomery::top(e[0])).rev() {
+        // The check does not cover a call whose result is put in an array that is there.
+        let y = turns(x, e, i, m);
         x = y;
     }
     x
 }
 
-// mu of each lane's modulus.
-pub fn mus(n: [u64; 8]) -> [u64; 8]
+// Each lane's modulus.
+pub fn moduli(n: [u64; 8]) -> [Modulus; 8]
     requires { Each (λ j. (at n j % 2 ≡ 1) × (at n j < 2 ^ 63)) }
-    ensures { Each (λ j. Modulus (at n j) (at result j)) }
+    ensures { Each (λ j. (modulus result j).n ≡ at n j) }
 {
-    let mut mu = [0; 8];
-    let mut j: usize = 0;
-    while j < 8 {
-        mu[j] = montgomery::mu_of(n[j]);
-        j += 1;
-    }
-    mu
+    array::from_fn(|j| Modulus::new(n[j]))
 }
 
-// What a lane has before its quotient is known.
-const NOTHING: Quotient = Quotient {
-    value: Wide { hi: 0, lo: 0 },
-    squarings: 0,
-};
-
 // The quotient of each lane, where its residue stands for 2^f.
-pub fn quotients(x: [Counted; 8], n: [u64; 8], mu: [u64; 8]) -> [Quotient; 8]
-    requires { Each (λ j. ((lane x j).residue.0 < at n j) × Modulus (at n j) (at mu j)) }
-    ensures { Each (λ j. QuotientOf (at n j) (lane x j) (quotient result j)) }
+pub fn quotients(x: [Counted; 8], m: [Modulus; 8]) -> [Quotient; 8]
+    requires { Each (λ j. (lane x j).residue.0 < (modulus m j).n) }
+    ensures { Each (λ j. QuotientOf (modulus m j).n (lane x j) (quotient result j)) }
 {
-    let mut q = [NOTHING; 8];
-    let mut j: usize = 0;
-    while j < 8 {
-        q[j] = montgomery::quotient_of(x[j], n[j], mu[j]);
-        j += 1;
+    let mut q = [Quotient::ZERO; 8];
+    for j in 0..8 {
+        q[j] = montgomery::quotient_of(x[j], m[j]);
     }
     q
 }
@@ -94,7 +73,6 @@ pub fn quotients_of_powers(f: [u64; 8], n: [u64; 8]) -> [Quotient; 8]
     requires { Each (λ j. (at n j % 2 ≡ 1) × (at n j < 2 ^ 63) × (64 ≤ at f j) × (bit_length (at f j) ≡ bit_length (at f 0))) }
     ensures { Each (λ j. PowerQuotient (at n j) (at f j) (quotient result j)) }
 {
-    let mu = mus(n);
-    let x = powers(f, n, mu);
-    quotients(x, n, mu)
+    let m = moduli(n);
+    quotients(powers(f, m), m)
 }

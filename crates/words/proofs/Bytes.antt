@@ -173,10 +173,3 @@ paste_step d at src s i v hd hs e p = rw (p, ← e, add-one i) (paste-suc d at s
 
 pub paste_full : (d : List ℕ) (at : ℕ) (src : List ℕ) (n : ℕ) → length src ≡ n → paste d at src n ≡ take at d ++ src ++ drop (at + n) d
 paste_full d at src n e = ap (λ (l : List ℕ). take at d ++ l ++ drop (at + n) d) (take_all n src (omega arith))
-
-pub paste_all : (d src : List ℕ) (n : ℕ) → length src ≡ n → length d ≡ n → paste d 0 src n ≡ src
-paste_all d src n e h =
-    paste_full d 0 src n e
-    ∙ ap (λ (k : ℕ). src ++ drop k d) (zero-add n)
-    ∙ ap (λ (l : List ℕ). src ++ l) (drop_of_length-le d {i = n} (omega arith))
-    ∙ append-nil src

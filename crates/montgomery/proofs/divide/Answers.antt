@@ -5,7 +5,7 @@ use lib.Arith.{digits_lt}
 use Rattle.words.specs.Words.{joined}
 use Rattle.algebra.proofs.Cong.{Mod, to-%, of-%, is-%, rem, wrapped, of_eq, refl_mod, symm, trans, plus, less, scaled, cancel}
 use Rattle.montgomery.specs.Modulus.{Modulus}
-use Rattle.montgomery.proofs.Negated.{opposite, upper, wide_unit}
+use Rattle.montgomery.proofs.Negated.{opposite, wide_unit}
 use Rattle.montgomery.proofs.divide.Goals as goal
 
 module _ (W n μ : ℕ) (p : zero < W) (u : (n * μ + 1) % W ≡ 0) where
@@ -51,25 +51,10 @@ none : (n μ r : ℕ) → Modulus n μ → r ≡ 0 → (t : ℕ) → t % 2 ^ 128
 unfolding joined
 none n μ r m e t z g = nought (2 ^ 64) n μ (pow_pos 64) m.negated r t e z g
 
--- one more than the upper word of n * lo fits a word
-fit : (n μ lo h : ℕ) → Modulus n μ → lo < 2 ^ 64 → h ≡ n * lo / 2 ^ 64 → h + 1 < 2 ^ 64
-fit n μ lo h m l e =
-    let s = m.small in
-    let b : h < n = rw (e, mul_comm n lo) (upper (2 ^ 64) n lo l m.positive) in
-    bound s b
-  where
-    bound : n < 2 ^ 63 → h < n → h + 1 < 2 ^ 64
-    bound s b = omega arith
-
 pub returns-then-r-eq0 : goal.returns-then-r-eq0
-returns-then-r-eq0 c = none _ _ _ c.requires.1 c.if-r-eq0.true
-
-pub overflow_add-mul_high : goal.overflow_add-mul_high
-overflow_add-mul_high c =
-    let h : c.wrapping_mul-lo.result < 2 ^ 64 = search rules in
-    record { fits = fit _ _ _ _ c.requires.1 h c.mul_high.ensures }
+returns-then-r-eq0 c = none _ _ _ c.args.m.valid c.if-r-eq0.true
 
 pub returns : goal.returns
 returns c =
     let h : (c.args.r.0 < 2 ^ 64) × (c.wrapping_mul.result < 2 ^ 64) × (c.wrapping_mul-lo.result < 2 ^ 64) = search rules in
-    law _ _ _ _ _ _ c.requires.1 c.if-r-eq0.false h.0 c.wrapping_mul-lo.ensures c.mul_high.ensures c.wrapping_mul.ensures h.1 h.2
+    law _ _ _ _ _ _ c.args.m.valid c.if-r-eq0.false h.0 c.wrapping_mul-lo.ensures c.mul_high.ensures c.wrapping_mul.ensures h.1 h.2

@@ -1,17 +1,12 @@
--- `montgomery::plain_quotient` meets its contract: q and r are the quotient and the remainder of 2^i.
+-- `montgomery::plain_quotient` meets its contract: q and r are the quotient and the remainder of 2^counter.
 -- Assumes nothing.
-use Rattle.std.proofs.Common.{◌≡◌, ℕ, ◌+◌, ◌-◌, ◌*◌, ◌/◌, ◌%◌, ◌^◌, ◌<◌, ◌≤◌, sym, refl, ap, ◌∙◌, lt_of_le_of_lt, mod-lt, mod-eq_of_lt, pow-suc, div-add-mod', div-le_self, add-one, arith}
+use Rattle.std.proofs.Common.{◌≡◌, ℕ, ◌+◌, ◌-◌, ◌*◌, ◌/◌, ◌%◌, ◌^◌, ◌<◌, ◌≤◌, sym, ap, ◌∙◌, mod-lt, pow-suc, div-add-mod', add-one, arith}
 use lib.Arith.{digits_div, digits_mod}
-use lib.Pow.{pow-lt}
 use Rattle.words.specs.Words.{joined}
 use Rattle.words.specs.declared.Wide.{Wide}
-use Rattle.words.proofs.Joined.{joined_low}
 use Rattle.algebra.proofs.Cong.{Mod, to-%, wrapped, refl_mod, of_eq, trans, plus}
 use Rattle.montgomery.proofs.plain_quotient.Goals.{else-n-r, then-n-r}
 use Rattle.montgomery.proofs.plain_quotient.Goals as goal
-
-first : (n : ℕ) → joined 0 (1 / n) ≡ 1 / n % 2 ^ 128
-first n = joined_low (1 / n) ∙ sym (mod-eq_of_lt (lt_of_le_of_lt (div-le_self 1 n) (pow-lt {i = 0} {j = 128} (omega arith))))
 
 -- a turn: d is what is left of twice the remainder, and b the next bit of the quotient
 module _ (M n i q r b d : ℕ) (h : d < n) (s : d + b * n ≡ r + r) (r-is : r ≡ 2 ^ i % n) (q-is : q ≡ 2 ^ i / n % M) where
@@ -33,35 +28,23 @@ module _ (M n i q r q₁ : ℕ) (l : r < n) (r-is : r ≡ 2 ^ i % n) (q-is : q �
     quotient M n i q r 0 (r + r) h (omega arith) r-is q-is (q + q) q₁ e (of_eq (omega arith)),
   )
 
-  set : (q₂ : ℕ) → n ≤ r + r → q₂ ≡ (q₁ + joined 0 1) % M → (r + r - n ≡ 2 ^ (i + 1) % n) × (q₂ ≡ 2 ^ (i + 1) / n % M)
-  set q₂ h f =
+  set : (q₂ one : ℕ) → one ≡ 1 → n ≤ r + r → q₂ ≡ (q₁ + one) % M → (r + r - n ≡ 2 ^ (i + 1) % n) × (q₂ ≡ 2 ^ (i + 1) / n % M)
+  set q₂ one o h f =
       let d = r + r - n in
       let s : d + 1 * n ≡ r + r = omega arith in (
         remainder M n i q r 1 d (omega arith) s r-is q-is,
-        quotient M n i q r 1 d (omega arith) s r-is q-is (q₁ + joined 0 1) q₂ f (plus (wrapped M e) (of_eq (joined_low 1))),
+        quotient M n i q r 1 d (omega arith) s r-is q-is (q₁ + one) q₂ f (plus (wrapped M e) (of_eq o)),
       )
 
 small : (n i r : ℕ) → 0 < n → n < 2 ^ 63 → r ≡ 2 ^ i % n → (r < n) × (r + r < 2 ^ 64)
 small n i r h l e = let m : r < n = rw e (mod-lt (2 ^ i) h) in (m, omega arith)
 
-pub loop-i-init : goal.loop-i-init
-loop-i-init c = (omega arith, refl, first c.args.n)
-
-pub overflow_add-r : goal.overflow_add-r
-overflow_add-r c =
-    record { fits = (small _ _ _ c.requires.0 c.requires.1 c.loop-i.invariant.1).1 }
-
-pub loop-i-preserved : goal.loop-i-preserved
-loop-i-preserved c =
-    let l = (small _ _ _ c.requires.0 c.requires.1 c.loop-i.invariant.1).0 in
+pub loop-preserved : goal.loop-preserved
+loop-preserved c =
+    let l = (small _ _ _ c.requires.0 c.requires.1 c.loop.invariant.0).0 in
     (elim c.if-n-r.branch [
-      | then-n-r w ↦ let r = set (2 ^ 128) _ c.loop-i.i _ _ _ l c.loop-i.invariant.1 c.loop-i.invariant.2 c.add-q.ensures _ w.if-n-r.true w.add-q-then-n-r.ensures in
-          (omega arith, w.r-is ∙ r.0, ap (λ (z : Wide). joined z.hi z.lo) w.q-is ∙ r.1)
-      | else-n-r w ↦ let r = clear (2 ^ 128) _ c.loop-i.i _ _ _ l c.loop-i.invariant.1 c.loop-i.invariant.2 c.add-q.ensures w.if-n-r.false in
-          (omega arith, w.r-is ∙ r.0, ap (λ (z : Wide). joined z.hi z.lo) w.q-is ∙ r.1)
+      | then-n-r w ↦ let r = set (2 ^ 128) _ c.loop.counter _ _ _ l c.loop.invariant.0 c.loop.invariant.1 c.add-q.ensures _ _ w.from.ensures w.if-n-r.true w.add-q-then-n-r.ensures in
+          (w.r-is ∙ r.0, ap (λ (z : Wide). joined z.hi z.lo) w.q-is ∙ r.1)
+      | else-n-r w ↦ let r = clear (2 ^ 128) _ c.loop.counter _ _ _ l c.loop.invariant.0 c.loop.invariant.1 c.add-q.ensures w.if-n-r.false in
+          (w.r-is ∙ r.0, ap (λ (z : Wide). joined z.hi z.lo) w.q-is ∙ r.1)
     ])
-
-pub returns : goal.returns
-returns c =
-    let all : c.loop-i.i ≡ c.args.e = omega arith in
-    rw all at c.loop-i.invariant.2

@@ -4,7 +4,4 @@ use Rattle.montgomery.specs.Standing.{Standing}
 use Rattle.montgomery.proofs.power.Given as goal
 
 abbrev pub invariant-loop-i : goal.invariant-loop-i
-invariant-loop-i l = Standing l.n l.e l.i l.x
-
-abbrev pub decreases-loop-i : goal.decreases-loop-i
-decreases-loop-i l = l.i
+invariant-loop-i l = Standing l.m.n l.e l.i l.x

@@ -13,8 +13,5 @@ full f l =
 plain : (f n r : ℕ) → r ≡ montgomery n (2 ^ f) → 2 ^ (64 + f) % n ≡ r
 plain f n r p = sym (p ∙ ap (λ t. t % n) (sym (pow-add 2 64 f)))
 
-pub divide-requires : goal.divide-requires
-divide-requires c = c.requires
-
 pub returns : goal.returns
 returns c = (λ f l p. c.divide.ensures (2 ^ (64 + f)) (full f l) (plain f _ _ p), c.squarings.ensures)

@@ -12,4 +12,4 @@ law n x y z r e f g =
 
 pub returns : goal.returns
 returns c =
-    law _ _ _ _ _ c.wrapping_mul-y.ensures c.wrapping_sub_u64.ensures.value c.wrapping_mul.ensures
+    law _ _ _ _ _ c.wrapping_mul-y.ensures (omega arith) c.wrapping_mul.ensures

@@ -7,7 +7,7 @@ use Rattle.algebra.proofs.Cong.{Mod, to-%, rem, wrapped, refl_mod, trans, times,
 use Rattle.algebra.proofs.Montgomery.{upper_below}
 use Rattle.montgomery.specs.Modulus.{Modulus}
 use Rattle.montgomery.proofs.Negated.{opposite, upper}
-use Rattle.montgomery.proofs.Reducing.{ordered, reduced}
+use Rattle.montgomery.proofs.Reducing.{reduced}
 use Rattle.montgomery.proofs.square.Goals as goal
 
 -- whether the lower words carry
@@ -51,29 +51,10 @@ law x n μ lo hi q h r t et m elo ehi eq eh er = (rw er (mod-lt _ m.positive), t
     whole : Mod n ((hi + bool_byte t + h) * 2 ^ 64) (x * x)
     whole = record { k = 0; j = q; eq = omega (arith, sum, div-add-mod' (x * x) (2 ^ 64), div-add-mod' (q * n) (2 ^ 64)) }
 
-pub overflow_add-carried : goal.overflow_add-carried
-overflow_add-carried c =
-    let m = c.requires.1.small in
-    let l = first _ _ _ (bit c.wrapping_mul-lo.result) c.requires.0 m c.mul_high-hi.ensures in
-    record { fits = omega (arith, l, m) }
-
-pub overflow_add-sum : goal.overflow_add-sum
-overflow_add-sum c =
-    let m = c.requires.1.small in
-    let k : c.wrapping_mul-q.result < 2 ^ 64 = search rules in
-    let l = both _ _ _ _ _ (bit c.wrapping_mul-lo.result) c.requires.0 m k c.mul_high-hi.ensures c.mul_high.ensures in
-    record { fits = omega (arith, l, m) }
-
-pub smaller-requires : goal.smaller-requires
-smaller-requires c =
-    let m = c.requires.1.small in
-    let k : (c.wrapping_mul-q.result < 2 ^ 64) × (c.wrapping_sub.result < 2 ^ 64) = search rules in
-    ordered _ _ _ (both _ _ _ _ _ (bit c.wrapping_mul-lo.result) c.requires.0 m k.0 c.mul_high-hi.ensures c.mul_high.ensures) m k.1 c.wrapping_sub.ensures
-
 pub returns : goal.returns
 returns c =
-    let m = c.requires.1.small in
+    let m = c.args.m.valid.small in
     let k : (c.wrapping_mul-q.result < 2 ^ 64) × (c.wrapping_sub.result < 2 ^ 64) = search rules in
-    law c.args.x.0 c.args.n c.args.mu _ _ _ _ _ _ refl c.requires.1
+    law c.args.x.0 c.args.m.n c.args.m.mu _ _ _ _ _ _ refl c.args.m.valid
     c.wrapping_mul-lo.ensures c.mul_high-hi.ensures c.wrapping_mul-q.ensures c.mul_high.ensures
-    (reduced _ _ _ (both _ _ _ _ _ (bit c.wrapping_mul-lo.result) c.requires.0 m k.0 c.mul_high-hi.ensures c.mul_high.ensures) m k.1 c.wrapping_sub.ensures _ c.smaller.ensures)
+    (reduced _ _ _ (both _ _ _ _ _ (bit c.wrapping_mul-lo.result) c.requires m k.0 c.mul_high-hi.ensures c.mul_high.ensures) m k.1 c.wrapping_sub.ensures _ c.smaller.ensures)

@@ -1,23 +1,10 @@
--- `montgomery::top` meets its contract: the zeros above the top bit leave room for it and the bits below it.
+-- `montgomery::top` meets its contract: e is between 2 ^ result and twice that.
 -- Assumes nothing.
-use Rattle.std.proofs.Common.{◌≡◌, ℕ, ◌+◌, ◌-◌, ◌^◌, ◌<◌, ◌≤◌, add-one, arith}
-use lib.Count.{count_leading_zeros, leading_top}
-use Rattle.algebra.specs.Bits.{bit_length}
+use Rattle.std.proofs.Common.{sym, pow-suc, add-one, arith}
 use Rattle.algebra.proofs.Bits.{length_is}
 use Rattle.montgomery.proofs.top.Goals as goal
 
-module _ (e : ℕ) (h : 0 < e) (l : e < 2 ^ 64) where
-  zeros : count_leading_zeros 64 e ≤ 63
-  zeros = let t = leading_top 64 e h l in omega (arith, t.1)
-
-  places : 63 - count_leading_zeros 64 e + 1 ≡ bit_length e
-  places =
-      let t = leading_top 64 e h l in
-      let is : bit_length e ≡ t.0 + 1 = length_is e t.0 t.2 (rw (add-one t.0) t.3) in
-      omega (arith, t.1, is)
-
-pub overflow_sub-result : goal.overflow_sub-result
-overflow_sub-result c = zeros _ c.requires c.ranges.e.fits
-
 pub returns : goal.returns
-returns c = places _ c.requires c.ranges.e.fits
+returns c =
+    let j = c.ilog2.result in
+    sym (length_is c.args.e j c.ilog2.ensures.power_le (rw (add-one j, pow-suc 2 j) (omega arith)))

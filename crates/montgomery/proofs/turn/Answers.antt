@@ -1,7 +1,7 @@
 -- `montgomery::turn` meets its contract: the number that the bits of e from i up make is twice that of the bits above, and bit i.
 -- Assumes nothing.
-use Rattle.std.proofs.Common.{◌≡◌, ℕ, zero, suc, ◌+◌, ◌*◌, ◌/◌, ◌%◌, ◌^◌, ◌<◌, refl, ◌∙◌, mod-lt, arith, rules}
-use lib.Bits.{bit_and, and_le_r, and_mask}
+use Rattle.std.proofs.Common.{◌≡◌, ℕ, zero, suc, ◌+◌, ◌*◌, ◌/◌, ◌%◌, ◌^◌, ◌<◌, refl, ◌∙◌, mod-lt, arith}
+use lib.Bits.{bit_and, and_mask}
 use Rattle.algebra.proofs.Cong.{Mod, of-%, is-%, wrapped}
 use Rattle.algebra.proofs.Power.{squared, doubled, next_bit}
 use Rattle.algebra.proofs.Bits.{length_below}
@@ -41,18 +41,15 @@ place : (n e i : ℕ) (x : Counted) → Standing n e (i + 1) x → e < 2 ^ 64 �
 place n e i x s l = omega (arith, s.counted, length_below e 64 l)
 
 pub overflow_shr-bit : goal.overflow_shr-bit
-overflow_shr-bit c = omega (arith, place _ _ _ _ c.requires.1 c.ranges.e.fits)
+overflow_shr-bit c = omega (arith, place _ _ _ _ c.requires c.ranges.e.fits)
 
 pub square-requires : goal.square-requires
 square-requires c =
-    (below _ _ _ _ c.requires.0 c.requires.1.stands, c.requires.0, omega (arith, place _ _ _ _ c.requires.1 c.ranges.e.fits))
-
-pub double-requires : goal.double-requires
-double-requires c = (c.square.ensures.0, c.requires.0.small, search (rules, and_le_r))
+    (below _ _ _ _ c.args.m.valid c.requires.stands, omega (arith, place _ _ _ _ c.requires c.ranges.e.fits))
 
 pub returns : goal.returns
 returns c =
     record {
-      stands = law c.args.e c.args.n c.args.mu c.args.i c.args.x.residue.0 c.square.result.residue.0 c.requires.0 c.requires.1.stands c.square.ensures.1 _ c.square.ensures.0 (c.double.ensures.0, c.double.ensures.1);
-      counted = omega (arith, c.double.ensures.2, c.square.ensures.2, c.requires.1.counted);
+      stands = law c.args.e c.args.m.n c.args.m.mu c.args.i c.args.x.residue.0 c.square.result.residue.0 c.args.m.valid c.requires.stands c.square.ensures.1 _ c.square.ensures.0 (c.double.ensures.0, c.double.ensures.1);
+      counted = omega (arith, c.double.ensures.2, c.square.ensures.2, c.requires.counted);
     }

@@ -1,13 +1,12 @@
--- `words::put` meets its contract: after i turns the first i bytes of x stand there, and the rest is x / 256^i.
+-- `words::put` meets its contract: the bytes before the index are those of x, and the rest is x without them.
 -- Assumes nothing.
-use Rattle.std.proofs.Common.{◌≡◌, ◌-◌, ◌/◌, ◌^◌, ◌≤◌, length}
-use lib.Seq.{paste}
+use Rattle.std.proofs.Common.{◌≡◌, ℕ, ◌/◌, ◌^◌, ◌<◌, get_or}
 use Rattle.words.specs.Bytes.{bytes_of}
 use Rattle.words.proofs.put.Given as goal
 
-abbrev pub invariant-loop-i : goal.invariant-loop-i
-invariant-loop-i l =
-    (l.i ≤ l.width) × (length l.s ≡ length l.initial.s) × (l.rest ≡ l.x / 256 ^ l.i) × (l.s ≡ paste l.initial.s l.at (bytes_of l.width l.x) l.i)
-
-abbrev pub decreases-loop-i : goal.decreases-loop-i
-decreases-loop-i l = l.width - l.i
+abbrev pub invariant-loop-byte : goal.invariant-loop-byte
+invariant-loop-byte l =
+    record {
+      rest : l.rest ≡ l.x / 256 ^ l.byte-index;
+      written : (k : ℕ) → k < l.byte-index → get_or l.byte-items k 0 ≡ get_or (bytes_of l.width l.x) k 0;
+    }
