@@ -9,5 +9,6 @@ pub mod Sides
 pub mod Table
 pub mod Sizes
 pub mod Alike
+pub mod Stores
 pub mod Lanes
 pub mod EveryOther

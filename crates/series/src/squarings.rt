@@ -40,6 +40,7 @@ pub fn cut_at(numbers: Numbers, first: u64, end: u64, b: u64) -> u64
 }
 
 // The squarings of a row's terms from `first` up to, not including, `end`: for each bit length, its squarings times the number of its terms.
+#[tactic(auto, using(crate::proofs::ByLengths::falling, crate::proofs::Numbers::step_positive, algebra::proofs::Sums::sum_none, words::proofs::Joined::joined_zero))]
 pub fn range_squarings(f: Series, p: u64, row: u64, first: u64, end: u64) -> Wide
     requires { Position (formula_of f) p × (row < row_count (formula_of f)) × (first ≤ end) × (end ≤ term_count (formula_of f) p) }
     ensures { joined result.hi result.lo ≡ range_squarings (formula_of f) p (row_at (formula_of f) row) first (end - first) }

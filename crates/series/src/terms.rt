@@ -137,6 +137,7 @@ pub fn one_term(numbers: Numbers, k: u64, q: Quotient) -> Worked
 
 // The signed sum of the sizes of a row's terms from `first` up to, not including, `end`, modulo 2^128, and their squarings, which may be
 // more than a word holds.
+#[tactic(auto, using(crate::proofs::RangeSums::none, crate::proofs::RangeSums::and_part, crate::proofs::RangeSquarings::none_yet, crate::proofs::RangeSquarings::and_counts, words::proofs::Joined::joined_zero))]
 pub fn range_sum(f: Series, p: u64, row: u64, first: u64, end: u64) -> Worked
     requires { Position (formula_of f) p × (row < row_count (formula_of f)) × (first ≤ end) × (end ≤ term_count (formula_of f) p) }
     ensures { (joined result.sum.hi result.sum.lo ≡ range_sum (formula_of f) p (row_at (formula_of f) row) first (end - first))
