@@ -53,11 +53,11 @@ impl Store {
         requires { k < self.old.terms.end }
         ensures { (self.new.terms ≡ self.old.terms) × SizeOf self.old.terms.numbers k result }
     {
-        let past = std::num::wrapping_sub_u64(k, self.first);
-        if past < self.held {
-            return self.sizes[past as usize];
+        let mut place = std::num::wrapping_sub_u64(k, self.first);
+        if self.held <= place {
+            self.fill(k);
+            place = 0;
         }
-        self.fill(k);
-        self.sizes[0]
+        self.sizes[place as usize]
     }
 }

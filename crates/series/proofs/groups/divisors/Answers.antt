@@ -1,6 +1,6 @@
 -- `series::groups::divisors` meets its contract: the lanes below j have their N.
 -- Assumes nothing.
-use Rattle.std.proofs.Common.{ℕ, ◌+◌, ◌-◌, ◌*◌, arith, length-set}
+use Rattle.std.proofs.Common.{ℕ, ◌+◌, ◌*◌, arith, length-set}
 use Rattle.series.proofs.Lanes.{filled}
 use Rattle.series.proofs.groups.divisors.Goals as goal
 

@@ -1,9 +1,6 @@
 -- `series::terms::range_sum` meets its contract: the sum and the squarings are those of the terms passed.
 -- Assumes nothing.
-use Rattle.std.proofs.Common.{◌≡◌, ℕ, ◌-◌, ◌%◌, ◌^◌, ◌<◌, ap, ◌∙◌, arith}
-use Rattle.series.specs.Series.{row_at, modulus, range_sum}
-use Rattle.series.specs.Squarings.{range_squarings}
-use Rattle.series.specs.Names.{formula_of}
+use Rattle.std.proofs.Common.{◌≡◌, ◌-◌, ◌^◌, ◌<◌, arith}
 use Rattle.series.proofs.Numbers.{short, count_small}
 use Rattle.series.proofs.Table.{fitting}
 use Rattle.series.proofs.RangeSquarings.{exact}
