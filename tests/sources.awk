@@ -1,6 +1,6 @@
 # sources.awk - what sources.sh asks of the sources, all of which it reads. A function is named by its crate and module,
-# as crate::module::function; which functions it calls is read from its body. Prints the number of checks, or the first
-# that fails on standard error.
+# as crate::module::function, and one of a type as crate::module::Type::function; which functions it calls is read from
+# its body. Prints the number of checks, or the first that fails on standard error.
 
 FNR == 1 { module = module_of(FILENAME) }
 
@@ -11,11 +11,23 @@ FNR == 1 { module = module_of(FILENAME) }
 
 /^(pub )?use / { read_use($0) }
 
+/^impl/ {
+    if ($0 !~ /^impl ([A-Za-z0-9_<>]+ for )?[A-Z][A-Za-z0-9]* \{ *$/) fail(FILENAME ":" FNR ": not the impl of a type")
+    type = $0
+    sub(/ *\{ *$/, "", type)
+    sub(/.* /, "", type)
+    indent = "    "
+}
+
 /(^|[^A-Za-z0-9_])fn [A-Za-z_]/ {
-    if ($0 !~ /^(pub )?(extern "" )?fn /) fail(FILENAME ":" FNR ": a function that does not start its line")
+    if ($0 !~ ("^" indent "(pub )?(extern \"\" )?fn ")) fail(FILENAME ":" FNR ": a function that does not start its line")
     name = $0
     sub(/^.*fn /, "", name)
     sub(/(<'a>)?\(.*/, "", name)
+    if (indent != "") {
+        methods[name] = methods[name] " " module "::" type "::" name
+        name = type "::" name
+    }
     name = module "::" name
     signature[name] = $0
     if (name in known) fail(name ": written twice")
@@ -24,10 +36,11 @@ FNR == 1 { module = module_of(FILENAME) }
     next
 }
 
-/^\}/ { inside = 0 }
+$0 ~ ("^" indent "\\}") { inside = 0 }
+/^\}/ { indent = "" }
 !inside && module == "montgomery::counted" && /squarings: / { count_is = $0 }
 inside { body[name] = body[name] " " $0 }
-/^\{/ { inside = 1 }
+$0 ~ ("^" indent "\\{") { inside = 1 }
 
 END {
     if (failed) exit 1
@@ -106,8 +119,9 @@ function joined(name, text) {
     return text
 }
 
-# The functions that a text of the module calls, each behind a blank. A method is called with a point in front and a
-# macro with a mark behind: neither has a source here. A capital letter is a struct's or a variant's.
+# The functions that a text of the module calls, each behind a blank. A method is called with a point in front, and is
+# that of each type with one of its name; another one, or a macro, with a mark behind, has no source here. A capital
+# letter is a struct's or a variant's.
 function called(text, module,    list, name) {
     gsub(/::<[^<>]*>/, "", text)
     while (match(text, /[.A-Za-z_][A-Za-z0-9_:.]*!? ?\(/)) {
@@ -116,7 +130,7 @@ function called(text, module,    list, name) {
         sub(/ $/, "", name)
         if (name ~ /^(as|else|if|in|let|match|mut|return|while)$/ || name ~ /(^|::)[A-Z][A-Za-z0-9]*$/) continue
         if (!sub(/.*\./, ".", name) && name !~ /!/) name = full(name, module)
-        list = list " " name
+        list = list (name ~ /^\./ && substr(name, 2) in methods ? methods[substr(name, 2)] : " " name)
     }
     return list
 }

@@ -42,9 +42,13 @@ in_module() {
     same "whether $1 is changed by $2" "$(cmp -s "$file" "$scratch/before"; echo $?)" 1
 }
 
-# in_function FUNCTION EDIT - the edit is of that function alone, and not of its contract.
-in_function() { in_module "${1%::*}" "/fn ${1##*::}(<'a>)?\(/,/^\}/{ /^ +(requires|ensures)/,/^\{/b
-$2 }"; }
+# in_function FUNCTION EDIT - the edit is of that function alone, and not of its contract. One of a type ends further in.
+in_function() {
+    local above=${1%::*} end='^\}'
+    case ${above##*::} in [A-Z]*) above=${above%::*} end='^ {4}\}' ;; esac
+    in_module "$above" "/fn ${1##*::}(<'a>)?\(/,/$end/{ /^ +(requires|ensures)/,/^ *\{/b
+$2 }"
+}
 
 # with MODULE CODE - the code is put behind the last line of the module.
 with() { printf '%s\n' "$2" >>"$(file_of "$1")"; }
@@ -101,7 +105,7 @@ damaged montgomery::square 's/words::wrapping_sub\(sum, n\)/sum.wrapping_sub(n)/
 damaged montgomery::square 's/let q = /assert!(n > 1); &/' "assert!: $in_power no source"
 damaged words::wrapping_sub 's/wrapping_sub/wrapping_difference/' "words::wrapping_sub: $in_power no source"
 damaged montgomery::square 's/let q = /let two = series::formula::step(lo); &/' \
-    "series::formula::step: $in_power the branches match"
+    "series::formula::formula_of: $in_power the branches match"
 chosen='pub fn chosen(x: u64) -> u64
 {
     if x > 1 { x } else { 1 }
@@ -181,6 +185,10 @@ damaged series::terms::range_sum 's/Worked \{.*\}/crate::squarings::range_squari
 in_module series::terms 's/^use crate::Series;/&\nuse crate::squarings::reaching;/'
 damaged series::terms::size 's/let e = /let c = reaching(numbers, 128); &/' \
     "${work}_work: comes to the quote series::squarings::reaching"
+damaged series::store::Store::fill 's/crate::terms::size\(.*\);/& let c = crate::squarings::reaching(self.terms.numbers, 128);/' \
+    "${work}_work: comes to the quote series::squarings::reaching"
+damaged series::store::Store::size_of 's/self\.fill\(k\);/self.filled(k);/' \
+    "${work}_work: comes to .filled, which has no source"
 for call in work work_lower work_upper check_work check_work_lower check_work_upper; do
     damaged ${work}_$call 's/ticket::work\(/ticket::quote(/' "${work}_$call: comes to the quote "
 done
@@ -207,6 +215,9 @@ damaged engine::overlaps::bbp_overlap_part 's/overlap::overlap_part\(/overlap::p
 # What is not read.
 in_module words 's/^pub fn add/    &/'
 told "a function that does not start its line"
+with words "impl<'a> Wide {
+}"
+told "not the impl of a type"
 in_function montgomery::smaller 's/let wrapped/if z > y {\n}\n&/'
 told "montgomery::smaller: braces that do not match"
 with montgomery::counted "$chosen"
