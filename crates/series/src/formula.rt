@@ -113,7 +113,10 @@ const CHECK: Formula = Formula {
 
 // The formula that a name stands for.
 pub fn formula_of(f: Series) -> Formula
-    ensures { (map row_of result.rows.now ≡ (formula_of f).rows) × (result.step ≡ (formula_of f).step) × (result.alternates ≡ (formula_of f).alternates) × (result.last ≡ (formula_of f).last) }
+    ensures rows { map row_of result.rows.now ≡ (formula_of f).rows }
+    ensures step { result.step ≡ (formula_of f).step }
+    ensures alternates { result.alternates ≡ (formula_of f).alternates }
+    ensures last { result.last ≡ (formula_of f).last }
 {
     match f {
         Series::Bellard => BELLARD,

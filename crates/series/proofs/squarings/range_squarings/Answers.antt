@@ -30,7 +30,7 @@ pub loop-b-preserved : goal.loop-b-preserved
 loop-b-preserved c =
     let known = c.loop-b.invariant in
     let next = c.cut_at-next.ensures _ _ _ c.numbers_of-numbers.ensures in
-    (added _ _ _ _ _ _ c.loop-b.auto.b _ _ _ _ _ known.1 next known.0 c.mul.ensures c.add-squarings.ensures, next)
+    (added _ _ _ _ _ _ (omega arith) _ _ _ _ _ known.1 next known.0 c.mul.ensures c.add-squarings.ensures, next)
 
 pub returns : goal.returns
 returns c =
