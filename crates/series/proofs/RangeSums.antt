@@ -53,7 +53,7 @@ module _ (F : Formula) (p : ℕ) (r : Row) (first : ℕ) where
   empty = refl
 
   pub none : 0 ≡ range_sum F p r first (first - first)
-  none = empty ∙ ap (range_sum F p r first) (sym (sub_self first))
+  none = grind (arith, empty)
 
   -- the terms from k on, after those from `first` up to it
   pub and_part : (k d s q t : ℕ) → first ≤ k → s ≡ range_sum F p r first (k - first) → q ≡ range_sum F p r k d → t ≡ (s + q) % modulus
