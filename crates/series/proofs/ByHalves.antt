@@ -1,13 +1,13 @@
 -- Working a range of terms by halves gives its signed sum, as first-to-last order does: a range has the sum of its two parts, wherever it
 -- is cut.
 -- Assumes nothing.
-use Rattle.std.proofs.Common.{◌≡◌, ℕ, zero, suc, ◌+◌, ◌-◌, ◌/◌, ◌%◌, ◌^◌, ◌<◌, ◌≤◌, Bool, true, false, cond, not, leb, sym, refl, ap, ◌∙◌, ap₂, add-zero, mod-lt, add_comm, pow-suc, zero-add, add-one, arith, lit<, leb-true}
+use Rattle.std.proofs.Common.{◌≡◌, ℕ, zero, suc, ◌+◌, ◌-◌, ◌/◌, ◌%◌, ◌^◌, ◌<◌, ◌≤◌, Bool, true, false, cond, not, leb, sym, refl, ap, ◌∙◌, ap₂, add-zero, add_comm, pow-suc, zero-add, add-one, arith, leb-true}
 use Rattle.std.proofs.lemmas.Grind.{common_steps}
 use lib.IntN.{sub_ℕ}
 use Rattle.algebra.specs.Sum.{sum}
 use Rattle.algebra.specs.Whole.{residue}
 use Rattle.algebra.proofs.Cong.{of_eq, of-%}
-use Rattle.series.specs.Series.{Formula, Row, modulus, is_added, on_side, rise, fall, divisor, size, row_sum, range_sum}
+use Rattle.series.specs.Series.{Formula, Row, modulus, is_added, on_side, size, row_sum, range_sum}
 use Rattle.series.specs.Results.{signed_by}
 use Rattle.series.specs.Halves.{signed_size, first_to_last, one_or_none, by_halves, SameSum}
 use Rattle.series.proofs.RangeSums.{residue_of, empty, split}

@@ -1,10 +1,8 @@
 -- The squarings of a range of terms, by bit lengths: where E - 64 lies between two powers of two that follow one another, the terms are a
 -- range, and each takes the same number of squarings. The range is cut at these places, from the least power to the greatest.
 -- Assumes nothing.
-use Rattle.std.proofs.Common.{◌≡◌, ℕ, zero, suc, ◌+◌, ◌-◌, ◌*◌, ◌/◌, ◌^◌, ◌<◌, ◌≤◌, min, max, Bool, true, false, cond, leb, sym, refl, ap, ◌∙◌, ap₂, le_trans, le_refl, mod-lt, mul-le-mul_left, pow-suc, div-add-mod', zero-mul, add-one, arith, pow_pos, pow_mono, le-leb, leb-false, leb-true}
+use Rattle.std.proofs.Common.{◌≡◌, ℕ, zero, suc, ◌+◌, ◌-◌, ◌*◌, ◌/◌, ◌^◌, ◌<◌, ◌≤◌, min, max, Bool, true, false, cond, leb, sym, refl, ap, ◌∙◌, ap₂, le_refl, mod-lt, mul-le-mul_left, pow-suc, div-add-mod', zero-mul, add-one, arith, pow_pos, pow_mono, le-leb, leb-false, leb-true}
 use Rattle.std.proofs.lemmas.Grind.{common_steps}
-use native.Mathlib.Nat.{mul-div-le}
-use borrow.Author.Tests.{lt-leb}
 use Rattle.algebra.specs.Bits.{bit_length}
 use Rattle.algebra.specs.Sum.{sum}
 use Rattle.algebra.proofs.Bits.{length_is}

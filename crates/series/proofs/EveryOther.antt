@@ -1,6 +1,6 @@
 -- Every other term of a row has one sign: a range of pairs is two sums, each with a sign.
 -- Assumes nothing.
-use Rattle.std.proofs.Common.{◌≡◌, ℕ, ◌+◌, ◌*◌, ◌%◌, ◌<◌, Bool, true, false, cond, not, sym, refl, ap, ◌∙◌, ap₂, mod-lt, arith, lit<}
+use Rattle.std.proofs.Common.{◌≡◌, ℕ, ◌+◌, ◌*◌, ◌%◌, ◌<◌, Bool, true, false, cond, not, refl, ap, ◌∙◌, ap₂, mod-lt, arith}
 use Rattle.std.proofs.lemmas.Grind.{common_steps}
 use lib.IntN.{sub_ℕ}
 use Rattle.algebra.specs.Sum.{sum}

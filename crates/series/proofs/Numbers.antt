@@ -1,9 +1,8 @@
 -- The numbers of a term in words of 64 bits: 4 n + 130, E, the step's multiples and N all fit, for each k below K: so the terms of a row
 -- are worked in words.
 -- Assumes nothing.
-use Rattle.std.proofs.Common.{◌≡◌, ℕ, ◌+◌, ◌*◌, ◌/◌, ◌%◌, ◌^◌, ◌<◌, ◌≤◌, ap, le_trans, mul-le-mul_left, le-div_iff_mul-le, div-le_self, div-mul-le_self, arith, lit<, lit≤}
+use Rattle.std.proofs.Common.{◌≡◌, ℕ, ◌+◌, ◌*◌, ◌/◌, ◌%◌, ◌^◌, ◌<◌, ◌≤◌, ap, arith, lit<, lit≤}
 use Rattle.std.proofs.lemmas.Grind.{common_steps}
-use native.Mathlib.Nat.{mul-div-le}
 use Rattle.series.specs.Series.{Formula, Row, skipped, divisor, fall, term_count}
 use Rattle.series.specs.Fitting.{Position, Fitting, Workable}
 use Rattle.series.specs.Squarings.{Short}

@@ -2,11 +2,9 @@
 -- Assumes nothing.
 use Rattle.std.proofs.Common.{◌≡◌, ℕ, ◌+◌, ◌-◌, ◌*◌, ◌/◌, ◌%◌, ◌^◌, ◌<◌, ◌≤◌, Bool, true, false, cond, leb, sym, refl, ap, ◌∙◌, ap₂, le_trans, lt_trans, add-zero, mod-eq_of_lt, zero-add, arith, lit<}
 use Rattle.std.proofs.lemmas.Grind.{common_steps}
-use borrow.Author.Tests.{lt-leb}
 use Rattle.algebra.specs.Bits.{bit_length}
 use Rattle.algebra.specs.Sum.{sum}
 use Rattle.algebra.proofs.Bits.{length_below}
-use Rattle.algebra.proofs.Cong.{rem, plus, to-%}
 use Rattle.algebra.proofs.Sums.{sum_le, sum_same, sum_split, sum_none, sum_next}
 use Rattle.series.specs.Series.{Formula, Row, modulus, rise, fall}
 use Rattle.series.specs.Squarings.{squarings, range_squarings, Short}

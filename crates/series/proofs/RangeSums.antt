@@ -1,7 +1,6 @@
 -- The signed sum of a range of terms, and of the range after it: as a loop meets it that adds modulo 2 ^ 128.
 -- Assumes nothing.
 use Rattle.std.proofs.Common.{◌≡◌, ℕ, ◌+◌, ◌-◌, ◌%◌, ◌<◌, ◌≤◌, sym, refl, ap, ◌∙◌, ap₂, mod-lt, arith, lit<}
-use native.Mathlib.Nat.{sub_self}
 use lib.IntN.{sub_ℕ}
 use Rattle.algebra.specs.Sum.{sum}
 use Rattle.algebra.specs.Whole.{residue}

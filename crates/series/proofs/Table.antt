@@ -1,11 +1,10 @@
 -- The rule of the tables of rows, proved over all rows of a formula by one test that antt computes, and given at each row: what
 -- the code's arithmetic needs of a row's numbers.
 -- Assumes nothing.
-use Rattle.std.proofs.Common.{rules, ◌≡◌, ℕ, suc, ◌%◌, ◌^◌, ◌<◌, Bool, true, ◌&&◌, eqb, ltb, leb, List, [], ◌∷◌, length, get_or, sym, refl, subst, arith, ltb-true, eqb-true, leb-true}
+use Rattle.std.proofs.Common.{rules, ◌≡◌, ℕ, suc, ◌%◌, ◌^◌, ◌<◌, Bool, true, ◌&&◌, eqb, ltb, leb, List, [], ◌∷◌, length, get_or, sym, refl, subst, arith}
 use mathlib.Core.List.{Memᴰ}
 use Rattle.algebra.specs.Test.{all_below}
 use Rattle.algebra.proofs.Below.{all_at}
-use Rattle.algebra.proofs.Booleans.{and_left, and_right}
 use Rattle.series.specs.Series.{Formula, Row, row, row_count, row_at, divisor, term_count}
 use Rattle.series.specs.Fitting.{Fitting}
 use Rattle.series.specs.Names.{formula_of}

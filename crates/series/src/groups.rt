@@ -59,7 +59,7 @@ pub fn divisors(terms: &Terms, k: u64) -> [u64; 8]
 }
 
 // The sizes of the terms of a group, and the squarings that each takes.
-#[tactic(auto, using(crate::proofs::Alike::falls, crate::proofs::Alike::same_length, crate::proofs::Sizes::some, crate::proofs::Sizes::counted))]
+#[tactic(auto, using(crate::proofs::Alike::falls, crate::proofs::Alike::same_length), unfolding(crate::specs::Series::size, crate::specs::Squarings::squarings))]
 pub fn sizes(terms: &Terms, k: u64) -> [Quotient; 8]
     requires { (k + 8 ≤ terms.now.end) × Group terms.now.numbers k }
     ensures { Each (λ j. SizeOf terms.now.numbers (k + j) (quotient result j)) }

@@ -88,7 +88,7 @@ pub const NOTHING: Quotient = Quotient {
 };
 
 // The size of term k, and the squarings that it takes: none where E is below 128. Where E is below 0 the size is 0.
-#[tactic(auto, using(crate::proofs::Sizes::negative, crate::proofs::Sizes::some, crate::proofs::Sizes::uncounted, crate::proofs::Sizes::counted))]
+#[tactic(auto, using(words::proofs::Joined::joined_zero), unfolding(crate::specs::Series::size, crate::specs::Squarings::squarings))]
 pub fn size(numbers: Numbers, k: u64) -> Quotient
     requires { Workable numbers (k + 1) }
     ensures { SizeOf numbers k result }
