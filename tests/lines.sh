@@ -13,7 +13,7 @@ asked() {
     local files
     mapfile -t files < <(find "$1" -name out -prune -o -path '*/src/*.rt' -print | sort)
     LC_ALL=C awk '
-        FNR == 1 || /^\{/ { inside = 0 }
+        FNR == 1 || /^ *\{/ { inside = 0 }
         /^ *(requires|ensures)( |$)/ { inside = 1 }
         inside {
             count++

@@ -323,7 +323,7 @@ function compare_quote(name,    seen, callee, many) {
 function compare_work(name,    seen, callee) {
     reach(name, seen)
     for (callee in seen) {
-        check(callee in known || callee ~ /^(std::num::[a-z0-9_]+|u64::leading_zeros|\.len)$/, \
+        check(callee in known || callee ~ /^(std::num::[a-z0-9_]+|u64::leading_zeros|\.len|\.clamp)$/, \
             name ": comes to " callee ", which has no source")
         check(!is_quote(callee), name ": comes to the quote " callee)
     }

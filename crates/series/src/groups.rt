@@ -17,19 +17,11 @@ pub fn grouped(terms: &Terms, k: u64) -> bool
     requires { k ≤ terms.now.end }
     ensures { result ≡ true → (k + 8 ≤ terms.now.end) × Group terms.now.numbers k }
 {
-    if terms.end - k < 8 {
-        return false;
-    }
-    let rise = terms.numbers.rise;
-    let step = terms.numbers.step;
-    let last = step * (k + 7);
-    if rise < last {
-        return false;
-    }
-    if rise - last < 128 {
-        return false;
-    }
-    montgomery::top(rise - step * k - 64) == montgomery::top(rise - last - 64)
+    let numbers = terms.numbers;
+    terms.end - k >= 8
+        && numbers.step * (k + 7) + 128 <= numbers.rise
+        && montgomery::top(numbers.rise - numbers.step * k - 64)
+            == montgomery::top(numbers.rise - numbers.step * (k + 7) - 64)
 }
 
 // E - 64 of each term of a group.

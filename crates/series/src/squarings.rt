@@ -30,13 +30,7 @@ pub fn cut_at(numbers: Numbers, first: u64, end: u64, b: u64) -> u64
     ensures { (F : Formula) (p : ℕ) (r : Row) → numbers ≡ numbers_of F p r → result ≡ cut_at F p r first end b }
 {
     let count = reaching(numbers, 64 + (1 << b));
-    if count < first {
-        first
-    } else if end < count {
-        end
-    } else {
-        count
-    }
+    count.clamp(first, end)
 }
 
 // The squarings of a row's terms from `first` up to, not including, `end`: for each bit length, its squarings times the number of its terms.
