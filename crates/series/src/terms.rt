@@ -58,7 +58,6 @@ pub fn numbers_of(f: Series, p: u64, row: u64) -> Numbers
 }
 
 // The terms of a row at position p before `end`.
-#[tactic(auto, using(crate::proofs::Numbers::workable, crate::proofs::Table::fitting))]
 pub fn terms_of(f: Series, p: u64, row: u64, end: u64) -> Terms
     requires { Position (formula_of f) p × (row < row_count (formula_of f)) × (end ≤ term_count (formula_of f) p) }
     ensures { (result.numbers ≡ numbers_of (formula_of f) p (row_at (formula_of f) row)) × (result.end ≡ end) }
