@@ -7,7 +7,6 @@ use Rattle.series.specs.Series.{Formula, Row, skipped, divisor, fall, term_count
 use Rattle.series.specs.Fitting.{Position, Fitting, Workable}
 use Rattle.series.specs.Squarings.{Short}
 use Rattle.series.specs.Names.{formula_of, numbers_of}
-use Rattle.series.specs.declared.terms.Numbers.{Numbers}
 use Rattle.series.specs.declared.Series.{Series}
 use Rattle.series.specs.declared.Series.TheVariants.{Bellard, Check}
 
@@ -61,7 +60,3 @@ workable f p r end w t h = record {
 -- no E - 64 has more than 63 bits
 pub short : (f : Series) (p : ℕ) (r : Row) → p ≤ (formula_of f).last → Fitting (formula_of f) r → Short p r
 short f p r h t = grind (arith, common_steps, last_small)
-
--- no more terms than these
-pub fewer : (n : Numbers) (end less : ℕ) → less ≤ end → Workable n end → Workable n less
-fewer n end less h w = grind arith

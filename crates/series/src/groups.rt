@@ -75,7 +75,7 @@ pub fn every_other(q: [Quotient; 8], first: usize) -> Wide
 }
 
 // The squarings of a group added up, modulo 2^128.
-#[tactic(auto, using(algebra::proofs::Sums::sum_none, algebra::proofs::Sums::sum_next, words::proofs::Joined::joined_zero, words::proofs::Joined::joined_low))]
+#[tactic(auto, using(algebra::proofs::Sums::sum_none, algebra::proofs::Sums::sum_next, words::proofs::Joined::joined_low))]
 pub fn squarings_of(q: [Quotient; 8]) -> Wide
     ensures { joined result.hi result.lo ≡ sum (λ j. (quotient q j).squarings) 0 8 % modulus }
 {
@@ -112,7 +112,6 @@ pub struct Part {
 }
 
 // A group where there is one, else one term.
-#[tactic(auto, using(crate::proofs::Numbers::fewer))]
 pub fn next_part(terms: &Terms, k: u64) -> Part
     requires { k < terms.now.end }
     ensures { (0 < result.count) × (k + result.count ≤ terms.now.end) × SumOf terms.now.numbers k result.count result.worked }

@@ -56,7 +56,7 @@ pub fn by_halves(first: u64, count: u64, store: &mut Store) -> Worked
 }
 
 // The signed sum of the sizes of a row's terms from `first` up to, not including, `end`, modulo 2^128, by halves, and their squarings.
-#[tactic(auto, using(crate::proofs::Numbers::short, crate::proofs::Numbers::count_small, crate::proofs::Table::fitting, crate::proofs::RangeSquarings::exact))]
+#[tactic(auto, using(crate::proofs::Numbers::short, crate::proofs::Table::fitting, crate::proofs::RangeSquarings::exact))]
 pub fn range_sum(f: Series, p: u64, row: u64, first: u64, end: u64) -> Worked
     requires { Position (formula_of f) p × (row < row_count (formula_of f)) × (first ≤ end) × (end ≤ term_count (formula_of f) p) }
     ensures { (joined result.sum.hi result.sum.lo ≡ range_sum (formula_of f) p (row_at (formula_of f) row) first (end - first))
