@@ -99,7 +99,8 @@ function module_of(path,    step, i, below) {
     return step[i - 1] below
 }
 
-# Functions, types and constants with their module, and with its last name alone; members of structs and enums.
+# Functions, types and constants with their module, and with its last name alone; members of structs and enums, and the
+# functions of types.
 function read_source(text,    name) {
     if (FNR == 1) {
         module = module_of(FILENAME)
@@ -110,7 +111,11 @@ function read_source(text,    name) {
     line[++lines] = text
     if (text ~ /^ghost use /) read_use(text)
     if (text ~ /^\}/) holder = ""
-    if (holder != "" && match(text, /^    (pub )?[A-Za-z][A-Za-z0-9_]*/)) {
+    if (text ~ /^impl .*[A-Za-z0-9] \{ *$/) {
+        holder = text
+        sub(/ *\{ *$/, "", holder)
+        holder = last_word(holder)
+    } else if (holder != "" && match(text, /^    (pub )?(fn )?[A-Za-z][A-Za-z0-9_]*/)) {
         name = last_word(substr(text, 1, RLENGTH))
         define_member(name)
         item[holder "::" name]

@@ -32,6 +32,7 @@ FNR == 1 { type = "" }
 /^\}/ { type = "" }
 $0 ~ ("^" margin() "\\}") || /^\}/ { inside = 0 }
 !inside && module == "montgomery::counted" && /squarings: / { count_is = $0 }
+!inside && module == "overlap" && /^    pub digits: / { digits_are = $0 }
 inside { body[name] = body[name] " " of_type($0) }
 $0 ~ ("^" margin() "\\{") { inside = 1 }
 
@@ -132,8 +133,9 @@ function joined(name, text) {
     return text
 }
 
-# The functions that a text of the module calls, each behind a blank. A method is called with a point in front and a
-# macro with a mark behind: neither has a source here. A capital letter is a struct's or a variant's.
+# The functions that a text of the module calls, each behind a blank. A method is called with a point in front, and is
+# that of each type with one of its name; another one, or a macro, with a mark behind, has no source here. A capital
+# letter is a struct's or a variant's.
 function called(text, module,    list, name) {
     gsub(/::<[^<>]*>/, "", text)
     gsub(/\.\.=?/, " ", text)
@@ -143,7 +145,7 @@ function called(text, module,    list, name) {
         sub(/ $/, "", name)
         if (name ~ /^(as|else|if|in|let|match|mut|return|while)$/ || name ~ /(^|::)[A-Z][A-Za-z0-9]*$/) continue
         if (!sub(/.*\./, ".", name) && name !~ /!/) name = full(name, module)
-        list = list " " name
+        list = list (name ~ /^\./ && substr(name, 2) in methods ? methods[substr(name, 2)] : " " name)
     }
     return list
 }
@@ -337,7 +339,7 @@ function compare_quote(name,    seen, callee, many) {
 # What the kit gives: a function or a method of numbers, arrays, slices, iterators and the like. A method that an impl
 # here has is collected with its source, and a closure is read where it is written.
 function of_kit(callee) {
-    return callee ~ /^(std::(num|array)::[a-z0-9_]+|u(8|16|32|64|size)::[a-z0-9_]+|\.[a-z0-9_]+)$/
+    return callee ~ /^(std::(num|array)::[a-z0-9_]+|[iu](8|16|32|64|size)::[a-z0-9_]+|\.[a-z0-9_]+)$/
 }
 
 # Working comes to both powers, and to no quote: a count is made and not looked up.
@@ -355,8 +357,9 @@ function compare_work(name,    seen, callee) {
 # A part of one of two lent slices is returned, and nothing that is copied.
 function compare_returned(name) {
     check(name in known, name ": no source")
-    check(signature[name] ~ /\(first: &'a \[u8\], .*second: &'a \[u8\], .*\) -> &'a \[u8\]$/, \
+    check(signature[name] ~ /\(first: &Laid<'a>, second: &Laid<'a>\) -> &'a \[u8\]$/, \
         name ": does not return a part of the slices first and second")
+    check(digits_are ~ /: &'a \[u8\],$/, name ": the digits are not lent")
 }
 
 # What is said to C of a part is said of the one that is returned.

@@ -42,9 +42,13 @@ in_module() {
     same "whether $1 is changed by $2" "$(cmp -s "$file" "$scratch/before"; echo $?)" 1
 }
 
-# in_function FUNCTION EDIT - the edit is of that function alone, and not of its contract.
-in_function() { in_module "${1%::*}" "/fn ${1##*::}(<'a>)?\(/,/^\}/{ /^ +(requires|ensures)/,/^\{/b
-$2 }"; }
+# in_function FUNCTION EDIT - the edit is of that function alone, and not of its contract. One of a type ends further in.
+in_function() {
+    local above=${1%::*} end='^\}'
+    case ${above##*::} in [A-Z]*) above=${above%::*} end='^ {4}\}' ;; esac
+    in_module "$above" "/fn ${1##*::}(<'a>)?\(/,/$end/{ /^ +(requires|ensures)/,/^ *\{/b
+$2 }"
+}
 
 # with MODULE CODE - the code is put behind the last line of the module.
 with() { printf '%s\n' "$2" >>"$(file_of "$1")"; }
@@ -105,7 +109,7 @@ damaged montgomery::square 's/words::wrapping_sub\(sum, m\.n\)/sum.wrapping_sub(
 damaged montgomery::square 's/let q = /assert!(n > 1); &/' "assert!: $in_power no source"
 damaged words::wrapping_sub 's/wrapping_sub/wrapping_difference/' "words::wrapping_sub: $in_power no source"
 damaged montgomery::square 's/let q = /let two = series::formula::step(lo); &/' \
-    "series::formula::step: $in_power the branches match"
+    "series::formula::formula_of: $in_power the branches match"
 chosen='pub fn chosen(x: u64) -> u64
 {
     if x > 1 { x } else { 1 }
@@ -208,6 +212,8 @@ with words 'impl Wide {
 }'
 in_function ticket::sum 's/let range = /let bill = first.bill(); &/'
 told "${work}_work: comes to the quote "
+damaged series::store::Store::fill 's/crate::terms::size\(.*\);/& let c = crate::squarings::reaching(self.terms.numbers, 128);/' \
+    "${work}_work: comes to the quote series::squarings::reaching"
 for call in work work_lower work_upper check_work check_work_lower check_work_upper; do
     damaged ${work}_$call 's/ticket::work\(/ticket::quote(/' "${work}_$call: comes to the quote "
 done
@@ -226,7 +232,9 @@ damaged ticket::squarings 's/series::squarings::/series::bills::/' \
 part=overlap::part
 damaged $part "s/fn part<'a>/fn other<'a>/" "$part: no source"
 damaged $part "s/-> &'a \[u8\]/-> [u8; 30]/" "$part: does not return a part"
-damaged $part "s/second: &'a \[u8\]/second: [u8; 30]/" "$part: does not return a part"
+damaged $part "s/second: &Laid<'a>/second: \&Laid<'b>/" "$part: does not return a part"
+in_module overlap "s/^    pub digits: &'a \[u8\],/    pub digits: [u8; 30],/"
+told "$part: the digits are not lent"
 damaged overlap::overlap_part 's/= part\(/= copied(/' "engine::overlaps::bbp_overlap_part: does not come to $part"
 damaged engine::overlaps::bbp_overlap_part 's/overlap::overlap_part\(/overlap::place_of(/' \
     "engine::overlaps::bbp_overlap_part: does not come to $part"

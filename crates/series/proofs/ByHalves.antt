@@ -1,12 +1,13 @@
 -- Working a range of terms by halves gives its signed sum, as first-to-last order does: a range has the sum of its two parts, wherever it
 -- is cut.
 -- Assumes nothing.
-use Rattle.std.proofs.Common.{◌≡◌, ℕ, zero, suc, ◌+◌, ◌-◌, ◌/◌, ◌%◌, ◌^◌, ◌<◌, ◌≤◌, Bool, true, false, cond, not, leb, sym, refl, ap, ◌∙◌, ap₂, add-zero, mod-lt, add_comm, pow-suc, zero-add, add-one, arith, lit<, leb-true}
+use Rattle.std.proofs.Common.{◌≡◌, ℕ, zero, suc, ◌+◌, ◌-◌, ◌/◌, ◌%◌, ◌^◌, ◌<◌, ◌≤◌, Bool, true, false, cond, not, leb, sym, refl, ap, ◌∙◌, ap₂, add-zero, add_comm, pow-suc, zero-add, add-one, arith, leb-true}
+use Rattle.std.proofs.lemmas.Grind.{common_steps}
 use lib.IntN.{sub_ℕ}
 use Rattle.algebra.specs.Sum.{sum}
 use Rattle.algebra.specs.Whole.{residue}
 use Rattle.algebra.proofs.Cong.{of_eq, of-%}
-use Rattle.series.specs.Series.{Formula, Row, modulus, is_added, on_side, rise, fall, divisor, size, row_sum, range_sum}
+use Rattle.series.specs.Series.{Formula, Row, modulus, is_added, on_side, size, row_sum, range_sum}
 use Rattle.series.specs.Results.{signed_by}
 use Rattle.series.specs.Halves.{signed_size, first_to_last, one_or_none, by_halves, SameSum}
 use Rattle.series.proofs.RangeSums.{residue_of, empty, split}
@@ -20,11 +21,7 @@ module _ (F : Formula) (p : ℕ) (r : Row) where
 
   size_lt : (k : ℕ) → size F p r k < modulus
   unfolding size
-  size_lt k = go (leb (fall F k) (rise p r))
-    where
-      go : (b : Bool) → cond b (2 ^ (rise p r - fall F k) / divisor r k % modulus) 0 < modulus
-      go true = mod-lt _ (lit< tt)
-      go false = lit< tt
+  size_lt k = grind (arith, common_steps)
 
   -- it is the sum of a range
   one : (k : ℕ) → signed_size F p r k ≡ range_sum F p r k 1
@@ -41,7 +38,7 @@ module _ (F : Formula) (p : ℕ) (r : Row) where
   -- from its size with its sign
   pub one_signed : (k v t : ℕ) → v ≡ size F p r k → t ≡ signed_by (is_added F r k) v → t ≡ range_sum F p r k 1
   unfolding signed_size
-  one_signed k v t e s = s ∙ ap (signed_by (is_added F r k)) e ∙ one k
+  one_signed k v t e s = grind (arith, common_steps, one)
 
   -- ---- first to last
 

@@ -1,9 +1,8 @@
 -- The squarings of a range of terms, by bit lengths: where E - 64 lies between two powers of two that follow one another, the terms are a
 -- range, and each takes the same number of squarings. The range is cut at these places, from the least power to the greatest.
 -- Assumes nothing.
-use Rattle.std.proofs.Common.{◌≡◌, ℕ, zero, suc, ◌+◌, ◌-◌, ◌*◌, ◌/◌, ◌^◌, ◌<◌, ◌≤◌, min, max, Bool, true, false, cond, leb, sym, refl, ap, ◌∙◌, ap₂, le_trans, le_refl, mod-lt, mul-le-mul_left, pow-suc, div-add-mod', zero-mul, add-one, arith, pow_pos, pow_mono, le-leb, leb-false, leb-true}
-use native.Mathlib.Nat.{mul-div-le}
-use borrow.Author.Tests.{lt-leb}
+use Rattle.std.proofs.Common.{◌≡◌, ℕ, zero, suc, ◌+◌, ◌-◌, ◌*◌, ◌/◌, ◌^◌, ◌<◌, ◌≤◌, min, max, Bool, true, false, cond, leb, sym, refl, ap, ◌∙◌, ap₂, le_refl, mod-lt, mul-le-mul_left, pow-suc, div-add-mod', zero-mul, add-one, arith, pow_pos, pow_mono, le-leb, leb-false, leb-true}
+use Rattle.std.proofs.lemmas.Grind.{common_steps}
 use Rattle.algebra.specs.Bits.{bit_length}
 use Rattle.algebra.specs.Sum.{sum}
 use Rattle.algebra.proofs.Bits.{length_is}
@@ -26,13 +25,7 @@ module _ (F : Formula) (p : ℕ) (r : Row) where
   module _ (s : 0 < F.step) (least k : ℕ) where
     reached : k < reaching F p r least → fall F k + least ≤ rise p r
     unfolding reaching
-    reached = go (leb least (rise p r)) refl
-      where
-        go : (t : Bool) → leb least (rise p r) ≡ t → k < cond t ((rise p r - least) / F.step + 1) 0 → fall F k + least ≤ rise p r
-        go true e l =
-            let q : k ≤ (rise p r - least) / F.step = omega arith in
-            omega (arith, leb-true least (rise p r) e, le_trans (mul-le-mul_left F.step q) (mul-div-le (rise p r - least) F.step))
-        go false e l = absurd (omega arith)
+    reached = grind (arith, common_steps)
 
     unreached : reaching F p r least ≤ k → rise p r < fall F k + least
     unfolding reaching
@@ -116,7 +109,7 @@ module _ (F : Formula) (p : ℕ) (r : Row) where
 
     start : Short p r → cut 63 ≡ first
     unfolding cut_at reaching
-    start h = rw (lt-leb (64 + 2 ^ 63) (rise p r) h) (omega arith)
+    start h = grind (arith, common_steps)
 
     pub by_lengths_lem : Short p r → by_lengths F p r first end ≡ range_squarings F p r first (end - first)
     unfolding by_lengths range_squarings

@@ -1,6 +1,7 @@
 -- Every other term of a row has one sign: a range of pairs is two sums, each with a sign.
 -- Assumes nothing.
-use Rattle.std.proofs.Common.{◌≡◌, ℕ, ◌+◌, ◌*◌, ◌%◌, ◌<◌, Bool, true, false, cond, not, sym, refl, ap, ◌∙◌, ap₂, mod-lt, arith, lit<}
+use Rattle.std.proofs.Common.{◌≡◌, ℕ, ◌+◌, ◌*◌, ◌%◌, ◌<◌, Bool, true, false, cond, not, refl, ap, ◌∙◌, ap₂, mod-lt, arith}
+use Rattle.std.proofs.lemmas.Grind.{common_steps}
 use lib.IntN.{sub_ℕ}
 use Rattle.algebra.specs.Sum.{sum}
 use Rattle.algebra.specs.Whole.{residue}
@@ -60,7 +61,4 @@ module _ (F : Formula) (p : ℕ) (r : Row) (k c : ℕ) where
   pub alternating : (x y t : ℕ) → x ≡ others k % modulus → y ≡ others (k + 1) % modulus
       → t ≡ (signed_by (is_added F r k) x + signed_by (is_added F r (k + 1)) y) % modulus → t ≡ range_sum F p r k (2 * c)
   unfolding range_sum on_side
-  alternating x y t ex ey e =
-      e ∙ ap₂ (λ (v w : ℕ). (signed_by (is_added F r k) v + signed_by (is_added F r (k + 1)) w) % modulus) ex ey
-      ∙ two_signs modulus (others k) (others (k + 1)) (is_added F r k) (is_added F r (k + 1)) (lit< tt)
-      ∙ sym (ap₂ (λ (v w : ℕ). residue modulus (sub_ℕ v w)) (row_of series.plus) (row_of series.minus))
+  alternating x y t ex ey e = grind (arith, common_steps, two_signs, row_of)

@@ -7,7 +7,7 @@ pub mod RangeSums
 pub mod RangeSquarings
 pub mod Sides
 pub mod Table
-pub mod Sizes
 pub mod Alike
 pub mod Stores
+pub mod Lanes
 pub mod EveryOther

@@ -1,13 +1,12 @@
 -- The numbers of a term in words of 64 bits: 4 n + 130, E, the step's multiples and N all fit, for each k below K: so the terms of a row
 -- are worked in words.
 -- Assumes nothing.
-use Rattle.std.proofs.Common.{◌≡◌, ℕ, ◌+◌, ◌*◌, ◌/◌, ◌%◌, ◌^◌, ◌<◌, ◌≤◌, ap, le_trans, mul-le-mul_left, le-div_iff_mul-le, div-le_self, div-mul-le_self, arith, lit<, lit≤}
-use native.Mathlib.Nat.{mul-div-le}
+use Rattle.std.proofs.Common.{◌≡◌, ℕ, ◌+◌, ◌*◌, ◌/◌, ◌%◌, ◌^◌, ◌<◌, ◌≤◌, ap, arith, lit<, lit≤}
+use Rattle.std.proofs.lemmas.Grind.{common_steps}
 use Rattle.series.specs.Series.{Formula, Row, skipped, divisor, fall, term_count}
 use Rattle.series.specs.Fitting.{Position, Fitting, Workable}
 use Rattle.series.specs.Squarings.{Short}
 use Rattle.series.specs.Names.{formula_of, numbers_of}
-use Rattle.series.specs.declared.terms.Numbers.{Numbers}
 use Rattle.series.specs.declared.Series.{Series}
 use Rattle.series.specs.declared.Series.TheVariants.{Bellard, Check}
 
@@ -22,29 +21,22 @@ step_positive Check = lit< tt
 -- k falls no further than 4 n + 130
 fall_small : (F : Formula) (p k : ℕ) → k < term_count F p → fall F k ≤ 4 * skipped p + 130
 unfolding term_count
-fall_small F p k h =
-    let q : k ≤ (4 * skipped p + 130) / F.step = omega arith in
-    le_trans (mul-le-mul_left F.step q) (mul-div-le (4 * skipped p + 130) F.step)
+fall_small F p k h = grind (arith, common_steps)
 
 -- K fits with room to spare
 pub count_small : (f : Series) (p : ℕ) → Position (formula_of f) p → term_count (formula_of f) p < 2 ^ 63
 unfolding term_count
-count_small f p w = omega (arith, w.high, last_small f, div-le_self (4 * skipped p + 130) (formula_of f).step)
+count_small f p w = grind (arith, common_steps, last_small)
 
 -- K grows with p
 pub count_grows : (F : Formula) (p p' : ℕ) → 0 < F.step → p ≤ p' → term_count F p ≤ term_count F p'
 unfolding term_count
-count_grows F p p' s h =
-    let l : (4 * skipped p + 130) / F.step * F.step ≤ 4 * skipped p' + 130 = omega (arith, div-mul-le_self (4 * skipped p + 130) F.step) in
-    let q = (le-div_iff_mul-le {x = (4 * skipped p + 130) / F.step} {y = 4 * skipped p' + 130} s).1 l in
-    omega arith
+count_grows F p p' s h = grind (arith, common_steps)
 
 divisor_fits : (f : Series) (p : ℕ) (r : Row) (k : ℕ) → Position (formula_of f) p → Fitting (formula_of f) r → k < term_count (formula_of f) p
     → divisor r k < 2 ^ 63
 divisor_fits f p r k w t h =
-    let F = formula_of f in
-    let l : k ≤ term_count F F.last = omega (arith, count_grows F p F.last (step_positive f) w.high) in
-    omega (arith, mul-le-mul_left r.m l, t.divisor_small)
+    grind (arith, common_steps, count_grows, step_positive)
 
 divisor_odd : (F : Formula) (r : Row) (k : ℕ) → Fitting F r → divisor r k % 2 ≡ 1
 divisor_odd F r k t = odd r.m r.j t.m_even t.j_odd
@@ -59,22 +51,12 @@ divisor_odd F r k t = odd r.m r.j t.m_even t.j_odd
 pub workable : (f : Series) (p : ℕ) (r : Row) (end : ℕ) → Position (formula_of f) p → Fitting (formula_of f) r → end ≤ term_count (formula_of f) p
     → Workable (numbers_of (formula_of f) p r) end
 workable f p r end w t h = record {
-  end_fits = omega (arith, count_small f p w);
-  fall_fits = λ k l. let s = fall_small (formula_of f) p k (omega (arith, l)) in
-      omega (arith, s, w.high, last_small f);
+  end_fits = grind (arith, count_small);
+  fall_fits = λ k l. omega (arith, fall_small (formula_of f) p k (omega (arith, l)), w.high, last_small f);
   odd = λ k. divisor_odd (formula_of f) r k t;
   small = λ k l. divisor_fits f p r k w t (omega (arith, l));
 }
 
 -- no E - 64 has more than 63 bits
 pub short : (f : Series) (p : ℕ) (r : Row) → p ≤ (formula_of f).last → Fitting (formula_of f) r → Short p r
-short f p r h t = omega (arith, h, last_small f, t.lead_small)
-
--- no more terms than these
-pub fewer : (n : Numbers) (end less : ℕ) → less ≤ end → Workable n end → Workable n less
-fewer n end less h w = record {
-  end_fits = omega (arith, w.end_fits);
-  fall_fits = λ k l. w.fall_fits k (omega (arith, l));
-  odd = w.odd;
-  small = λ k l. w.small k (omega (arith, l));
-}
+short f p r h t = grind (arith, common_steps, last_small)

@@ -1,11 +1,10 @@
 -- The squarings of a range of terms, one term at a time: none takes more than 62, and a loop that adds modulo 2 ^ 128 comes to their number.
 -- Assumes nothing.
 use Rattle.std.proofs.Common.{◌≡◌, ℕ, ◌+◌, ◌-◌, ◌*◌, ◌/◌, ◌%◌, ◌^◌, ◌<◌, ◌≤◌, Bool, true, false, cond, leb, sym, refl, ap, ◌∙◌, ap₂, le_trans, lt_trans, add-zero, mod-eq_of_lt, zero-add, arith, lit<}
-use borrow.Author.Tests.{lt-leb}
+use Rattle.std.proofs.lemmas.Grind.{common_steps}
 use Rattle.algebra.specs.Bits.{bit_length}
 use Rattle.algebra.specs.Sum.{sum}
 use Rattle.algebra.proofs.Bits.{length_below}
-use Rattle.algebra.proofs.Cong.{rem, plus, to-%}
 use Rattle.algebra.proofs.Sums.{sum_le, sum_same, sum_split, sum_none, sum_next}
 use Rattle.series.specs.Series.{Formula, Row, modulus, rise, fall}
 use Rattle.series.specs.Squarings.{squarings, range_squarings, Short}
@@ -13,7 +12,7 @@ use Rattle.series.specs.Squarings.{squarings, range_squarings, Short}
 module _ (F : Formula) (p : ℕ) (r : Row) where
   pub none : (k : ℕ) → rise p r < fall F k + 128 → squarings F p r k ≡ 0
   unfolding squarings
-  none k l = rw (lt-leb (fall F k + 128) (rise p r) l) refl
+  none k l = grind (arith, common_steps)
 
   few : Short p r → (k : ℕ) → squarings F p r k ≤ 62
   unfolding squarings
@@ -34,7 +33,7 @@ module _ (F : Formula) (p : ℕ) (r : Row) where
 module _ (F : Formula) (p : ℕ) (r : Row) (first : ℕ) where
   pub none_yet : (count : ℕ) → count ≡ 0 → 0 ≡ range_squarings F p r first count % modulus
   unfolding range_squarings
-  none_yet count e = sym (ap (λ (n : ℕ). n % modulus) (ap (sum (squarings F p r) first) e ∙ sum_none (squarings F p r) first))
+  none_yet count e = grind (arith, common_steps, sum_none)
 
   -- one term, or none
   pub one_alone : (count q : ℕ) → count ≡ 1 → q < 2 ^ 64 → q ≡ squarings F p r first → q ≡ range_squarings F p r first count % modulus
@@ -47,9 +46,7 @@ module _ (F : Formula) (p : ℕ) (r : Row) (first : ℕ) where
   both : (c d : ℕ)
       → (range_squarings F p r first c % modulus + range_squarings F p r (first + c) d % modulus) % modulus ≡ range_squarings F p r first (c + d) % modulus
   unfolding range_squarings
-  both c d =
-      to-% (plus (rem modulus (sum (squarings F p r) first c)) (rem modulus (sum (squarings F p r) (first + c) d)))
-      ∙ ap (λ (n : ℕ). n % modulus) (sym (sum_split (squarings F p r) first c d))
+  both c d = grind (arith, common_steps, sum_split)
 
   -- the terms from k on, after those from `first` up to it
   pub and_counts : (k d s q t : ℕ) → first ≤ k → s ≡ range_squarings F p r first (k - first) % modulus → q ≡ range_squarings F p r k d % modulus
@@ -69,6 +66,4 @@ module _ (F : Formula) (p : ℕ) (r : Row) (first : ℕ) where
 
   -- a count of so many terms is below 2 ^ 128
   pub exact : (count s : ℕ) → Short p r → count < 2 ^ 63 → s ≡ range_squarings F p r first count % modulus → s ≡ range_squarings F p r first count
-  exact count s h l e =
-      let small : range_squarings F p r first count < 2 ^ 70 = omega (arith, at_most F p r h first count) in
-      e ∙ mod-eq_of_lt (lt_trans small (lit< tt))
+  exact count s h l e = grind (arith, common_steps, at_most)

@@ -1,7 +1,6 @@
 -- The signed sum of a range of terms, and of the range after it: as a loop meets it that adds modulo 2 ^ 128.
 -- Assumes nothing.
 use Rattle.std.proofs.Common.{◌≡◌, ℕ, ◌+◌, ◌-◌, ◌%◌, ◌<◌, ◌≤◌, sym, refl, ap, ◌∙◌, ap₂, mod-lt, arith, lit<}
-use native.Mathlib.Nat.{sub_self}
 use lib.IntN.{sub_ℕ}
 use Rattle.algebra.specs.Sum.{sum}
 use Rattle.algebra.specs.Whole.{residue}
@@ -53,7 +52,7 @@ module _ (F : Formula) (p : ℕ) (r : Row) (first : ℕ) where
   empty = refl
 
   pub none : 0 ≡ range_sum F p r first (first - first)
-  none = empty ∙ ap (range_sum F p r first) (sym (sub_self first))
+  none = grind (arith, empty)
 
   -- the terms from k on, after those from `first` up to it
   pub and_part : (k d s q t : ℕ) → first ≤ k → s ≡ range_sum F p r first (k - first) → q ≡ range_sum F p r k d → t ≡ (s + q) % modulus

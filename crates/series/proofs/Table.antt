@@ -1,11 +1,10 @@
 -- The rule of the tables of rows, proved over all rows of a formula by one test that antt computes, and given at each row: what
 -- the code's arithmetic needs of a row's numbers.
 -- Assumes nothing.
-use Rattle.std.proofs.Common.{◌≡◌, ℕ, suc, ◌%◌, ◌^◌, ◌<◌, Bool, true, ◌&&◌, eqb, ltb, leb, List, [], ◌∷◌, length, get_or, sym, refl, subst, arith, ltb-true, eqb-true, leb-true}
+use Rattle.std.proofs.Common.{rules, ◌≡◌, ℕ, suc, ◌%◌, ◌^◌, ◌<◌, Bool, true, ◌&&◌, eqb, ltb, leb, List, [], ◌∷◌, length, get_or, sym, refl, subst, arith}
 use mathlib.Core.List.{Memᴰ}
 use Rattle.algebra.specs.Test.{all_below}
 use Rattle.algebra.proofs.Below.{all_at}
-use Rattle.algebra.proofs.Booleans.{and_left, and_right}
 use Rattle.series.specs.Series.{Formula, Row, row, row_count, row_at, divisor, term_count}
 use Rattle.series.specs.Fitting.{Fitting}
 use Rattle.series.specs.Names.{formula_of}
@@ -28,16 +27,7 @@ test Check = refl
 
 rule : (F : Formula) (r : Row) → fits F r ≡ true → Fitting F r
 unfolding fits odd small
-rule F r e =
-    let o = and_left (odd r) (small F r) e in
-    let s = and_right (odd r) (small F r) e in
-    record {
-      m_even = eqb-true (r.m % 2) 0 (and_left (eqb (r.m % 2) 0) (eqb (r.j % 2) 1) o);
-      j_odd = eqb-true (r.j % 2) 1 (and_right (eqb (r.m % 2) 0) (eqb (r.j % 2) 1) o);
-      lead_small = leb-true r.lead 130 (and_left (leb r.lead 130) (ltb (divisor r (term_count F F.last)) (2 ^ 63)) s);
-      divisor_small = ltb-true (divisor r (term_count F F.last)) (2 ^ 63)
-          (and_right (leb r.lead 130) (ltb (divisor r (term_count F F.last)) (2 ^ 63)) s);
-    }
+rule F r e = search rules
 
 -- a row of a list has a number in it
 numbered : (rs : List Row) (z r : Row) → Memᴰ r rs → (i : ℕ) × (i < length rs) × (get_or rs i z ≡ r)

@@ -7,4 +7,3 @@ pub mod Halves
 pub mod Squarings
 pub mod Results
 pub mod Groups
-pub mod Store

@@ -7,16 +7,17 @@ ghost use Rattle.series.specs.Squarings.{range_squarings};
 ghost use Rattle.series.specs.Names.{formula_of};
 ghost use Rattle.series.specs.Fitting.{Position};
 ghost use Rattle.series.specs.Results.{SumOf};
-ghost use Rattle.series.specs.Store.{numbers_in, end_in, WorkableIn, StoreIn};
 
 use crate::Series;
+use crate::store::Store;
 use crate::terms::Worked;
 use words::Wide;
 
 // One term with its sign, or none, modulo 2^128.
-pub fn one_or_none(row: &[u64; 7], first: u64, count: u64, store: &mut [u64; 26]) -> Worked
-    requires { WorkableIn row.now × (first + count ≤ end_in row.now) × (count < 2) × StoreIn row.now store.old }
-    ensures { StoreIn row.now store.new × SumOf (numbers_in row.now) first count result }
+#[tactic(auto, using(crate::proofs::RangeSums::empty, crate::proofs::RangeSquarings::none_yet, words::proofs::Joined::joined_zero))]
+pub fn one_or_none(first: u64, count: u64, store: &mut Store) -> Worked
+    requires { (first + count ≤ store.old.terms.end) × (count < 2) }
+    ensures { (store.new.terms ≡ store.old.terms) × SumOf store.old.terms.numbers first count result }
 {
     if count == 0 {
         let none = Wide { hi: 0, lo: 0 };
@@ -25,28 +26,28 @@ pub fn one_or_none(row: &[u64; 7], first: u64, count: u64, store: &mut [u64; 26]
             squarings: none,
         };
     }
-    let q = crate::store::size_of(row, first, store);
-    crate::terms::one_term(crate::store::numbers_in(row), first, q)
+    let q = store.size_of(first);
+    crate::terms::one_term(store.terms.numbers, first, q)
 }
 
 // The signed sum of the sizes of `count` terms from `first` on, and their squarings, both modulo 2^128. The lower half has count / 2 of them.
 // A half is cut again only if it has two terms or more, so that there is one call for each cut and none for each term.
-pub fn by_halves(row: &[u64; 7], first: u64, count: u64, store: &mut [u64; 26]) -> Worked
-    requires { WorkableIn row.now × (first + count ≤ end_in row.now) × StoreIn row.now store.old }
-    ensures { StoreIn row.now store.new × SumOf (numbers_in row.now) first count result }
+pub fn by_halves(first: u64, count: u64, store: &mut Store) -> Worked
+    requires { first + count ≤ store.old.terms.end }
+    ensures { (store.new.terms ≡ store.old.terms) × SumOf store.old.terms.numbers first count result }
 {
     let half = count / 2;
     let rest = count - half;
     let cut = first + half;
     let lower = if half < 2 {
-        one_or_none(row, first, half, store)
+        one_or_none(first, half, store)
     } else {
-        by_halves(row, first, half, store)
+        by_halves(first, half, store)
     };
     let upper = if rest < 2 {
-        one_or_none(row, cut, rest, store)
+        one_or_none(cut, rest, store)
     } else {
-        by_halves(row, cut, rest, store)
+        by_halves(cut, rest, store)
     };
     Worked {
         sum: words::add(lower.sum, upper.sum),
@@ -55,16 +56,15 @@ pub fn by_halves(row: &[u64; 7], first: u64, count: u64, store: &mut [u64; 26]) 
 }
 
 // The signed sum of the sizes of a row's terms from `first` up to, not including, `end`, modulo 2^128, by halves, and their squarings.
+#[tactic(auto, using(crate::proofs::Numbers::short, crate::proofs::Table::fitting, crate::proofs::RangeSquarings::exact))]
 pub fn range_sum(f: Series, p: u64, row: u64, first: u64, end: u64) -> Worked
     requires { Position (formula_of f) p × (row < row_count (formula_of f)) × (first ≤ end) × (end ≤ term_count (formula_of f) p) }
     ensures { (joined result.sum.hi result.sum.lo ≡ range_sum (formula_of f) p (row_at (formula_of f) row) first (end - first))
         × (joined result.squarings.hi result.squarings.lo ≡ range_squarings (formula_of f) p (row_at (formula_of f) row) first (end - first)) }
 {
-    let numbers = crate::terms::numbers_of(f, p, row);
-    let words = crate::store::words_of(numbers, end);
-    let mut store = [0u64; 26];
+    let mut store = Store::empty(crate::terms::terms_of(f, p, row, end));
     if first < end {
-        crate::store::fill(&words, first, &mut store);
+        store.fill(first);
     }
-    by_halves(&words, first, end - first, &mut store)
+    by_halves(first, end - first, &mut store)
 }

@@ -7,6 +7,7 @@ pub mod halves;
 pub mod squarings;
 pub mod store;
 pub mod terms;
+pub mod workable;
 
 // The formulas that the engine works by. `formula_of` of the specifications says what each stands for.
 #[derive(Clone, Copy)]

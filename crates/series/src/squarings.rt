@@ -12,6 +12,7 @@ use crate::terms::Numbers;
 use words::Wide;
 
 // How many terms, from term 0 on, have an E of at least `least`. E falls by the step, so their number is a quotient.
+#[tactic(auto, unfolding(crate::specs::Squarings::reaching))]
 pub fn reaching(numbers: Numbers, least: u64) -> u64
     requires { (0 < numbers.step) × (0 < least) }
     ensures { (F : Formula) (p : ℕ) (r : Row) → numbers ≡ numbers_of F p r → result ≡ definition.reaching F p r least }
@@ -23,34 +24,28 @@ pub fn reaching(numbers: Numbers, least: u64) -> u64
 }
 
 // Of the terms from `first` up to, not including, `end`, where those end that have an E - 64 of at least 2^b.
+#[tactic(auto, unfolding(crate::specs::Squarings::cut_at))]
 pub fn cut_at(numbers: Numbers, first: u64, end: u64, b: u64) -> u64
     requires { (0 < numbers.step) × (first ≤ end) × (b ≤ 63) }
     ensures { (F : Formula) (p : ℕ) (r : Row) → numbers ≡ numbers_of F p r → result ≡ cut_at F p r first end b }
 {
     let count = reaching(numbers, 64 + (1 << b));
-    if count < first {
-        first
-    } else if end < count {
-        end
-    } else {
-        count
-    }
+    count.clamp(first, end)
 }
 
 // The squarings of a row's terms from `first` up to, not including, `end`: for each bit length, its squarings times the number of its terms.
+#[tactic(auto, using(crate::proofs::ByLengths::falling, crate::proofs::Numbers::step_positive, algebra::proofs::Sums::sum_none, words::proofs::Joined::joined_zero))]
 pub fn range_squarings(f: Series, p: u64, row: u64, first: u64, end: u64) -> Wide
     requires { Position (formula_of f) p × (row < row_count (formula_of f)) × (first ≤ end) × (end ≤ term_count (formula_of f) p) }
     ensures { joined result.hi result.lo ≡ range_squarings (formula_of f) p (row_at (formula_of f) row) first (end - first) }
 {
     let numbers = crate::terms::numbers_of(f, p, row);
     let mut squarings = Wide { hi: 0, lo: 0 };
-    let mut b = 6;
     let mut cut = cut_at(numbers, first, end, 6);
-    while b < 63 {
+    for b in 6..63 {
         let next = cut_at(numbers, first, end, b + 1);
         squarings = words::add(squarings, words::mul(b, cut - next));
         cut = next;
-        b += 1;
     }
     squarings
 }

@@ -8,6 +8,7 @@ ghost use Rattle.series.specs.Fitting.{Position, Workable};
 ghost use Rattle.series.specs.Results.{SignedAs, SizeOf, SumOf};
 
 use crate::Series;
+use crate::workable::Terms;
 use montgomery::Quotient;
 use words::Wide;
 
@@ -31,6 +32,7 @@ pub struct Worked {
 }
 
 // K, the number of terms taken in every row.
+#[tactic(auto, unfolding(crate::specs::Series::term_count))]
 pub fn term_count(f: Series, p: u64) -> u64
     requires { Position (formula_of f) p }
     ensures { result ≡ term_count (formula_of f) p }
@@ -39,6 +41,7 @@ pub fn term_count(f: Series, p: u64) -> u64
 }
 
 // The numbers of a row at position p.
+#[tactic(auto, unfolding(crate::specs::Series::is_added))]
 pub fn numbers_of(f: Series, p: u64, row: u64) -> Numbers
     requires { Position (formula_of f) p × (row < row_count (formula_of f)) }
     ensures { result ≡ numbers_of (formula_of f) p (row_at (formula_of f) row) }
@@ -54,7 +57,19 @@ pub fn numbers_of(f: Series, p: u64, row: u64) -> Numbers
     }
 }
 
+// The terms of a row at position p before `end`.
+pub fn terms_of(f: Series, p: u64, row: u64, end: u64) -> Terms
+    requires { Position (formula_of f) p × (row < row_count (formula_of f)) × (end ≤ term_count (formula_of f) p) }
+    ensures { (result.numbers ≡ numbers_of (formula_of f) p (row_at (formula_of f) row)) × (result.end ≡ end) }
+{
+    Terms {
+        numbers: numbers_of(f, p, row),
+        end,
+    }
+}
+
 // Whether term k is added.
+#[tactic(auto, unfolding(crate::specs::Series::is_added))]
 pub fn is_added(numbers: Numbers, k: u64) -> bool
     ensures { (F : Formula) (p : ℕ) (r : Row) → numbers ≡ numbers_of F p r → result ≡ is_added F r k }
 {
@@ -66,12 +81,13 @@ pub fn is_added(numbers: Numbers, k: u64) -> bool
 }
 
 // What a term gives whose E is below 0.
-const NOTHING: Quotient = Quotient {
+pub const NOTHING: Quotient = Quotient {
     value: Wide { hi: 0, lo: 0 },
     squarings: 0,
 };
 
 // The size of term k, and the squarings that it takes: none where E is below 128. Where E is below 0 the size is 0.
+#[tactic(auto, using(words::proofs::Joined::joined_zero), unfolding(crate::specs::Series::size, crate::specs::Squarings::squarings))]
 pub fn size(numbers: Numbers, k: u64) -> Quotient
     requires { Workable numbers (k + 1) }
     ensures { SizeOf numbers k result }
@@ -93,6 +109,7 @@ pub fn size(numbers: Numbers, k: u64) -> Quotient
 }
 
 // A number with the sign of term k, modulo 2^128.
+#[tactic(auto, using(crate::proofs::ByHalves::negative, words::proofs::Joined::joined_zero, words::proofs::Joined::joined_lt))]
 pub fn signed(numbers: Numbers, k: u64, value: Wide) -> Wide
     ensures { SignedAs numbers k (joined value.hi value.lo) (joined result.hi result.lo) }
 {
@@ -104,6 +121,7 @@ pub fn signed(numbers: Numbers, k: u64, value: Wide) -> Wide
 }
 
 // A term with its sign, modulo 2^128, from its size and its squarings.
+#[tactic(auto, using(crate::proofs::ByHalves::one_signed, crate::proofs::RangeSquarings::one_alone, words::proofs::Joined::joined_low))]
 pub fn one_term(numbers: Numbers, k: u64, q: Quotient) -> Worked
     ensures { SizeOf numbers k q → SumOf numbers k 1 result }
 {
@@ -118,17 +136,19 @@ pub fn one_term(numbers: Numbers, k: u64, q: Quotient) -> Worked
 
 // The signed sum of the sizes of a row's terms from `first` up to, not including, `end`, modulo 2^128, and their squarings, which may be
 // more than a word holds.
+#[tactic(auto, using(crate::proofs::RangeSums::none, crate::proofs::RangeSums::and_part, crate::proofs::RangeSquarings::none_yet, crate::proofs::RangeSquarings::and_counts, words::proofs::Joined::joined_zero))]
 pub fn range_sum(f: Series, p: u64, row: u64, first: u64, end: u64) -> Worked
     requires { Position (formula_of f) p × (row < row_count (formula_of f)) × (first ≤ end) × (end ≤ term_count (formula_of f) p) }
     ensures { (joined result.sum.hi result.sum.lo ≡ range_sum (formula_of f) p (row_at (formula_of f) row) first (end - first))
         × (joined result.squarings.hi result.squarings.lo ≡ range_squarings (formula_of f) p (row_at (formula_of f) row) first (end - first)) }
 {
-    let numbers = numbers_of(f, p, row);
+    let terms = terms_of(f, p, row, end);
     let mut sum = Wide { hi: 0, lo: 0 };
     let mut squarings = Wide { hi: 0, lo: 0 };
     let mut k = first;
+    // A part has eight terms or one, so that no range counts the steps.
     while k < end {
-        let next = crate::groups::next_part(numbers, k, end);
+        let next = crate::groups::next_part(&terms, k);
         let worked = next.worked;
         sum = words::add(sum, worked.sum);
         squarings = words::add(squarings, worked.squarings);

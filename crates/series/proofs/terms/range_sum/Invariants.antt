@@ -8,7 +8,7 @@ abbrev pub invariant-loop-k : goal.invariant-loop-k
 invariant-loop-k l =
     (l.first ≤ l.k)
     × (l.k ≤ l.end)
-    × SumOf l.numbers l.first (l.k - l.first) (record { sum = l.sum; squarings = l.squarings })
+    × SumOf l.terms.numbers l.first (l.k - l.first) (record { sum = l.sum; squarings = l.squarings })
 
 abbrev pub decreases-loop-k : goal.decreases-loop-k
 decreases-loop-k l = l.end - l.k
