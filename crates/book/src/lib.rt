@@ -48,7 +48,7 @@ pub fn row_total(book: &[u8], row: usize) -> Wide
     requires { 4096 * row + 4096 ≤ length book.now }
     ensures { joined result.hi result.lo ≡ sum (kept_in book.now row) 0 256 % modulus }
 {
-    let mut total = Wide { hi: 0, lo: 0 };
+    let mut total = Wide::ZERO;
     for block in 0..256 {
         total = words::add(total, kept(book, row, block));
     }
@@ -60,9 +60,8 @@ pub fn zero_elsewhere(ledger: &Ledger, book: &[u8], row: usize) -> bool
     requires { (4096 * row + 4096 ≤ length book.now) × (row < row_count (formula_of ledger.now.f)) }
     ensures { result ≡ zero_elsewhere (limits_of (formula_of ledger.now.f)) ledger.now.bytes.now book.now row }
 {
-    let zero = Wide { hi: 0, lo: 0 };
     for block in 0..256 {
-        if !ledger.bit_set(row, block) && !words::is_equal(kept(book, row, block), zero) {
+        if !ledger.bit_set(row, block) && !words::is_equal(kept(book, row, block), Wide::ZERO) {
             return false;
         }
     }

@@ -147,6 +147,6 @@ pub fn withdraw(f: Series, ledger: &mut [u8], book: &mut [u8], t: Ticket) -> Ans
     let block = t.block as usize;
     let x = book::kept(book, row, block);
     book::remove(f, ledger, row, block, x);
-    book::keep(book, row, block, Wide { hi: 0, lo: 0 });
+    book::keep(book, row, block, Wide::ZERO);
     Ok(0)
 }

@@ -26,11 +26,11 @@ pub fn settled_digits(total: Wide, a: u64, b: u64) -> u64
     requires { (a < 2 ^ 63) × (b < 2 ^ 63) }
     ensures { result ≡ settled (sub_ℕ (joined total.hi total.lo) (b + 1)) (pos (joined total.hi total.lo + a + 1)) }
 {
-    let below = Wide { hi: 0, lo: b + 1 };
+    let below = Wide::from(b + 1);
     if words::is_less(total, below) {
         return 0;
     }
-    let high = words::add(total, Wide { hi: 0, lo: a + 1 });
+    let high = words::add(total, Wide::from(a + 1));
     if words::is_less(high, total) {
         return 0;
     }
@@ -72,7 +72,7 @@ impl<'a> InOrder<'a> {
             (total_in (limits_of (formula_of self.now.ledger.f)) self.now.ledger.bytes.now) ≡ pos (joined result.hi result.lo) }
     {
         let b = charges::in_run(self.ledger.f, false, self.ledger.run().p);
-        words::sub(self.total(), Wide { hi: 0, lo: b + 1 })
+        words::sub(self.total(), Wide::from(b + 1))
     }
 }
 

@@ -36,7 +36,7 @@ pub fn open(f: Series, run: Run, ledger: &mut [u8]) -> Answer
     if !run::in_range(f, run) {
         return Err(Refusal::OutOfRange);
     }
-    words::clear(ledger);
+    ledger.fill(0);
     words::put(ledger, 0, 8, run.p);
     words::put(ledger, 8, 2, run.c);
     Ok(0)

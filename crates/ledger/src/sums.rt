@@ -18,8 +18,7 @@ impl<'a> Ledger<'a> {
         ensures { (row : ℕ) → value_at result row ≡ held_in (row_count (formula_of self.now.f)) self.now.bytes.now row }
     {
         let rows = series::formula::row_count(self.f);
-        let zero = Wide { hi: 0, lo: 0 };
-        let mut sums = [zero; 7];
+        let mut sums = [Wide::ZERO; 7];
         for row in 0..rows {
             sums[row] = words::get_wide(self.bytes, 16 + 16 * row);
         }
@@ -42,7 +41,7 @@ pub fn put(f: Series, s: &mut [u8], sums: [Wide; 7])
 pub fn total(sums: [Wide; 7]) -> Wide
     ensures { joined result.hi result.lo ≡ sum (value_at sums) 0 7 % modulus }
 {
-    let mut total = Wide { hi: 0, lo: 0 };
+    let mut total = Wide::ZERO;
     for sum in &sums {
         total = words::add(total, *sum);
     }

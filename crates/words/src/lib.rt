@@ -123,13 +123,6 @@ pub fn is_equal(a: Wide, b: Wide) -> bool
     a == b
 }
 
-// Every byte 0.
-pub fn clear(s: &mut [u8])
-    ensures { s.new ≡ replicate (length s.old) 0 }
-{
-    s.fill(0);
-}
-
 // Writes the lowest `width` bytes of x, from `at` on. They may be more than the 8 of `to_le_bytes`: the others are 0.
 #[tactic(auto, using(crate::proofs::Loops::lower, crate::proofs::Loops::written, crate::proofs::Loops::wrote))]
 pub fn put(s: &mut [u8], at: usize, width: usize, x: u64)

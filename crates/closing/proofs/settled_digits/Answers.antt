@@ -32,17 +32,17 @@ module _ (M T a b s : ℕ) (M-is : M ≡ 2 ^ 128) (T-in : T < M) (a_in : a + 1 <
 pub returns-then-is_less : goal.returns-then-is_less
 returns-then-is_less c =
     let a = c.args in
-    let less = rw joined_low at c.is_less.ensures in
+    let less = rw c.from-below.ensures at c.is_less.ensures in
     negative_none (joined a.total.hi a.total.lo) (a.b + 1) _ (ltb-true _ _ (sym less ∙ c.if-is_less.true))
 
 pub returns-then-is_less-2 : goal.returns-then-is_less-2
 returns-then-is_less-2 c =
     let a = c.args in
     let h : (a.total.hi < 2 ^ 64) × (a.total.lo < 2 ^ 64) × (a.a + 1 < 2 ^ 64) = search rules in
-    let less = rw joined_low at c.is_less.ensures in
+    let less = rw c.from-below.ensures at c.is_less.ensures in
     wraps (2 ^ 128) (joined a.total.hi a.total.lo) a.a a.b _ refl (joined_lt _ _ h.0 h.1)
-    (rw joined_low at (joined_lt 0 (a.a + 1) (omega arith) h.2))
-    (ltb-false _ _ (sym less ∙ c.if-is_less.false)) (rw joined_low at c.add-high.ensures)
+    (omega (arith, h.2))
+    (ltb-false _ _ (sym less ∙ c.if-is_less.false)) (rw c.from.ensures at c.add-high.ensures)
     (ltb-true _ _ (sym c.is_less-2.ensures ∙ c.if-is_less-2.true))
 
 pub returns : goal.returns
@@ -50,9 +50,9 @@ returns c =
     let a = c.args in
     let h : (a.total.hi < 2 ^ 64) × (a.total.lo < 2 ^ 64) × (a.a + 1 < 2 ^ 64) = search rules in
     let l : (c.sub.result.hi < 2 ^ 64) × (c.sub.result.lo < 2 ^ 64) = search rules in
-    let less = rw joined_low at c.is_less.ensures in
+    let less = rw c.from-below.ensures at c.is_less.ensures in
     fits (2 ^ 128) (joined a.total.hi a.total.lo) a.a a.b _ refl (joined_lt _ _ h.0 h.1)
-    (rw joined_low at (joined_lt 0 (a.a + 1) (omega arith) h.2))
-    (ltb-false _ _ (sym less ∙ c.if-is_less.false)) (rw joined_low at c.add-high.ensures)
+    (omega (arith, h.2))
+    (ltb-false _ _ (sym less ∙ c.if-is_less.false)) (rw c.from.ensures at c.add-high.ensures)
     (ltb-false _ _ (sym c.is_less-2.ensures ∙ c.if-is_less-2.false)) _ _ (joined_lt _ _ l.0 l.1)
-    (rw joined_low at c.sub.ensures) c.shared_digits.ensures
+    (rw c.from-below.ensures at c.sub.ensures) c.shared_digits.ensures

@@ -14,4 +14,4 @@ returns-then-not-in_range c =
 pub returns : goal.returns
 returns c =
     opened _ _ _ _ (c.if-ledger-ledger_size.false ∙ c.ledger_size.ensures) (sym c.in_range.ensures ∙ c.if-not-in_range.false)
-    _ _ _ c.clear.ensures c.put.ensures c.put-2.ensures
+    _ _ _ (c.fill.ensures.after (λ y e. e)) c.put.ensures c.put-2.ensures

@@ -17,4 +17,4 @@ returns c =
     lower_is _ c.args.self.now.ledger.bytes.now _ _ _ c.run.ensures.0 c.in_run-b.ensures.counts c.total.ensures _ _
     c.requires
     (joined_lt _ _ h.0 h.1) (joined_lt _ _ l.0 l.1)
-    (joined_low _) c.sub.ensures
+    c.from.ensures c.sub.ensures
