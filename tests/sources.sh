@@ -217,8 +217,8 @@ damaged series::store::Store::fill 's/crate::terms::size\(.*\);/& let c = crate:
 for call in work work_lower work_upper check_work check_work_lower check_work_upper; do
     damaged ${work}_$call 's/ticket::work\(/ticket::quote(/' "${work}_$call: comes to the quote "
 done
-damaged series::terms::size 's/montgomery::quotient_of_power\(e, n\)/NOTHING/' "${work}_work: does not come to $power"
-damaged series::groups::sizes 's/lanes::quotients_of_powers\(f, n\)/[NOTHING; 8]/' \
+damaged series::terms::size 's/montgomery::quotient_of_power\(e, n\)/Quotient::ZERO/' "${work}_work: does not come to $power"
+damaged series::groups::sizes 's/lanes::quotients_of_powers\(f, n\)/[Quotient::ZERO; 8]/' \
     "${work}_work: does not come to $powers"
 damaged ticket::sum 's/series::halves::range_sum/series::terms::range_sum/' "${work}_work: does not come to $halves"
 damaged ticket::sum 's/let range = /let known = ticket::counts::of(p); &/' \

@@ -67,7 +67,7 @@ pub fn every_other(q: [Quotient; 8], first: usize) -> Wide
     requires { first < 2 }
     ensures { joined result.hi result.lo ≡ sum (every_other q first) 0 4 % modulus }
 {
-    let mut total = Wide { hi: 0, lo: 0 };
+    let mut total = Wide::ZERO;
     for i in 0..4 {
         total = words::add(total, q[2 * i + first].value);
     }
@@ -79,12 +79,9 @@ pub fn every_other(q: [Quotient; 8], first: usize) -> Wide
 pub fn squarings_of(q: [Quotient; 8]) -> Wide
     ensures { joined result.hi result.lo ≡ sum (λ j. (quotient q j).squarings) 0 8 % modulus }
 {
-    let mut total = Wide { hi: 0, lo: 0 };
+    let mut total = Wide::ZERO;
     for one in q {
-        let count = Wide {
-            hi: 0,
-            lo: one.squarings,
-        };
+        let count = Wide::from(one.squarings);
         total = words::add(total, count);
     }
     total

@@ -20,7 +20,7 @@ pub fn one_or_none(first: u64, count: u64, store: &mut Store) -> Worked
     ensures { (store.new.terms ≡ store.old.terms) × SumOf store.old.terms.numbers first count result }
 {
     if count == 0 {
-        let none = Wide { hi: 0, lo: 0 };
+        let none = Wide::ZERO;
         return Worked {
             sum: none,
             squarings: none,

@@ -40,7 +40,7 @@ pub fn range_squarings(f: Series, p: u64, row: u64, first: u64, end: u64) -> Wid
     ensures { joined result.hi result.lo ≡ range_squarings (formula_of f) p (row_at (formula_of f) row) first (end - first) }
 {
     let numbers = crate::terms::numbers_of(f, p, row);
-    let mut squarings = Wide { hi: 0, lo: 0 };
+    let mut squarings = Wide::ZERO;
     let mut cut = cut_at(numbers, first, end, 6);
     for b in 6..63 {
         let next = cut_at(numbers, first, end, b + 1);

@@ -4,7 +4,6 @@ ghost use Rattle.std.specs.Prelude.{◌≡◌, ℕ, ◌+◌, ◌<◌, ◌≤◌}
 ghost use Rattle.lanes.specs.Lanes.{quotient};
 ghost use Rattle.series.specs.Results.{SizeOf};
 
-use crate::terms::NOTHING;
 use crate::workable::Terms;
 use montgomery::Quotient;
 
@@ -29,7 +28,7 @@ impl Store {
             terms,
             first: 0,
             held: 0,
-            sizes: [NOTHING; 8],
+            sizes: [Quotient::ZERO; 8],
         }
     }
 

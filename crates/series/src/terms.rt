@@ -80,12 +80,6 @@ pub fn is_added(numbers: Numbers, k: u64) -> bool
     }
 }
 
-// What a term gives whose E is below 0.
-pub const NOTHING: Quotient = Quotient {
-    value: Wide { hi: 0, lo: 0 },
-    squarings: 0,
-};
-
 // The size of term k, and the squarings that it takes: none where E is below 128. Where E is below 0 the size is 0.
 #[tactic(auto, using(words::proofs::Joined::joined_zero), unfolding(crate::specs::Series::size, crate::specs::Squarings::squarings))]
 pub fn size(numbers: Numbers, k: u64) -> Quotient
@@ -94,7 +88,7 @@ pub fn size(numbers: Numbers, k: u64) -> Quotient
 {
     let fall = numbers.step * k;
     if numbers.rise < fall {
-        return NOTHING;
+        return Quotient::ZERO;
     }
     let e = numbers.rise - fall;
     let n = numbers.m * k + numbers.j;
@@ -116,7 +110,7 @@ pub fn signed(numbers: Numbers, k: u64, value: Wide) -> Wide
     if is_added(numbers, k) {
         value
     } else {
-        words::sub(Wide { hi: 0, lo: 0 }, value)
+        words::sub(Wide::ZERO, value)
     }
 }
 
@@ -127,10 +121,7 @@ pub fn one_term(numbers: Numbers, k: u64, q: Quotient) -> Worked
 {
     Worked {
         sum: signed(numbers, k, q.value),
-        squarings: Wide {
-            hi: 0,
-            lo: q.squarings,
-        },
+        squarings: Wide::from(q.squarings),
     }
 }
 
@@ -143,8 +134,8 @@ pub fn range_sum(f: Series, p: u64, row: u64, first: u64, end: u64) -> Worked
         × (joined result.squarings.hi result.squarings.lo ≡ range_squarings (formula_of f) p (row_at (formula_of f) row) first (end - first)) }
 {
     let terms = terms_of(f, p, row, end);
-    let mut sum = Wide { hi: 0, lo: 0 };
-    let mut squarings = Wide { hi: 0, lo: 0 };
+    let mut sum = Wide::ZERO;
+    let mut squarings = Wide::ZERO;
     let mut k = first;
     // A part has eight terms or one, so that no range counts the steps.
     while k < end {
