@@ -258,13 +258,13 @@ function compare_turn(name,    part, many, bit) {
     many = split(body[name], part, /; /)
     bit = name_of(part[1], "(e >> i) & 1")
     check(bit != "", name ": the bit is not (e >> i) & 1: " part[1])
-    check(many == 2 && part[2] == "crate::counted::double(crate::counted::square(x, m), " bit ", m)", \
+    check(many == 2 && part[2] == "crate::counted::double(crate::counted::square(x, m), " bit ", m.n)", \
         name ": not the square doubled by the bit: " part[2])
 }
 
 function compare_counted(name) {
     compare_plain(name, body[name])
-    check(index(body[name], "residue: crate::double(x.residue, bit, m)"), name ": not the residue doubled by the bit")
+    check(index(body[name], "residue: crate::double(x.residue, bit, n)"), name ": not the residue doubled by the bit")
 }
 
 # Shifted by the bit, N subtracted with wrapping, and the smaller of the two.
@@ -273,7 +273,7 @@ function compare_doubling(name,    part, many, shifted, less) {
     many = split(body[name], part, /; /)
     shifted = name_of(part[1], "x.0 << bit")
     check(shifted != "", name ": not shifted by the bit: " part[1])
-    less = name_of(part[2], "words::wrapping_sub(" shifted ", m.n)")
+    less = name_of(part[2], "words::wrapping_sub(" shifted ", n)")
     check(less != "", name ": not N subtracted with wrapping: " part[2])
     check(many == 3 && part[3] == "MontgomeryResidue(smaller(" shifted ", " less "))", \
         name ": not the smaller of the two: " part[3])
@@ -288,9 +288,9 @@ function compare_count(module,    name) {
     for (name in body)
         if (body[name] ~ /(^|[^A-Za-z0-9_])Counted \{/)
             check(name ~ ("^" module "::(start|square|double)$"), name ": makes a residue with a count")
-    compare_made(module "::start", "crate::start(m)", "0")
+    compare_made(module "::start", "crate::start(n)", "0")
     compare_made(module "::square", "crate::square(x.residue, m)", "x.squarings + 1")
-    compare_made(module "::double", "crate::double(x.residue, bit, m)", "x.squarings")
+    compare_made(module "::double", "crate::double(x.residue, bit, n)", "x.squarings")
 }
 
 function compare_made(name, residue, count) {

@@ -144,20 +144,20 @@ damaged lanes::turns 's/, e\[j\]/, e[(m[j].n \& 7) as usize]/' "lanes::turns: ha
 damaged montgomery::turn 's/\(e >> i\) & 1/(e \/ (1 << i)) \& 1/' "montgomery::turn: has a /"
 damaged montgomery::turn 's/\(e >> i\) & 1/(e >> i) % 2/' "montgomery::turn: has a %"
 damaged montgomery::turn 's/\(e >> i\) & 1/((e >> i) \& 3) >> 1/' "montgomery::turn: the bit is not (e >> i) & 1"
-damaged montgomery::turn 's/bit, m\)/1, m)/' "montgomery::turn: not the square doubled by the bit"
-damaged montgomery::counted::double 's/(crate::double\(x.residue, )bit, m\)/[x.residue, \11, m)][bit as usize]/' \
+damaged montgomery::turn 's/bit, m\.n\)/1, m.n)/' "montgomery::turn: not the square doubled by the bit"
+damaged montgomery::counted::double 's/(crate::double\(x.residue, )bit, n\)/[x.residue, \11, n)][bit as usize]/' \
     "montgomery::counted::double: has a ["
-damaged montgomery::counted::double 's/bit, m\),/1, m),/' \
+damaged montgomery::counted::double 's/bit, n\),/1, n),/' \
     "montgomery::counted::double: not the residue doubled by the bit"
-damaged montgomery::double 's/x\.0 << bit/(&) % m.n/' "montgomery::double: has a %"
+damaged montgomery::double 's/x\.0 << bit/(&) % n/' "montgomery::double: has a %"
 damaged montgomery::double 's/x\.0 << bit/[x.0, x.0 + x.0][bit as usize]/' "montgomery::double: has a ["
 damaged montgomery::double 's/x\.0 << bit/x.0 * (1 + bit)/' "montgomery::double: has a *"
 damaged montgomery::double 's/x\.0 << bit/x.0 + (x.0 \& words::wrapping_sub(0, bit))/' \
     "montgomery::double: not shifted by the bit"
-damaged montgomery::double 's/\(y, m\.n\)/(x.0, m.n)/' "montgomery::double: not N subtracted with wrapping"
-damaged montgomery::double 's/words::wrapping_sub\(y, m\.n\)/y - m.n/' "montgomery::double: not N subtracted with wrapping"
+damaged montgomery::double 's/\(y, n\)/(x.0, n)/' "montgomery::double: not N subtracted with wrapping"
+damaged montgomery::double 's/words::wrapping_sub\(y, n\)/y - n/' "montgomery::double: not N subtracted with wrapping"
 damaged montgomery::double 's/smaller\(y, z\)/smaller(z, y)/' "montgomery::double: not the smaller of the two"
-damaged montgomery::double 's/smaller\(y, z\)/z + (z >> 63) \& m.n/' "montgomery::double: not the smaller of the two"
+damaged montgomery::double 's/smaller\(y, z\)/z + (z >> 63) \& n/' "montgomery::double: not the smaller of the two"
 cp "$(file_of words)" "$(file_of montgomery::words)"
 in_module montgomery 's/^use words::Wide;/use crate::words;\n&/'
 told "montgomery::double: calls montgomery::words::wrapping_sub montgomery::smaller"
@@ -165,7 +165,7 @@ told "montgomery::double: calls montgomery::words::wrapping_sub montgomery::smal
 # The count.
 in_module montgomery::counted 's/^    squarings: u64,/    pub squarings: u64,/'
 told "montgomery::counted::Counted: the count is not private"
-damaged $power 's/crate::counted::start\(m\)/Counted { residue: start(m), squarings: 0 }/' \
+damaged $power 's/crate::counted::start\(m\.n\)/Counted { residue: start(m.n), squarings: 0 }/' \
     "$power: makes a residue with a count"
 damaged montgomery::counted::squarings 's/x\.squarings/Counted { residue: x.residue, squarings: 63 }.squarings/' \
     "montgomery::counted::squarings: makes a residue with a count"

@@ -20,11 +20,12 @@ pub fn squarings(x: Counted) -> u64
 }
 
 // 2 in Montgomery form, with no squaring made.
-pub fn start(m: Modulus) -> Counted
-    ensures { Started m.n result }
+pub fn start(n: u64) -> Counted
+    requires { (0 < n) × (n < 2 ^ 63) }
+    ensures { Started n result }
 {
     Counted {
-        residue: crate::start(m),
+        residue: crate::start(n),
         squarings: 0,
     }
 }
@@ -41,12 +42,12 @@ pub fn square(x: Counted, m: Modulus) -> Counted
 }
 
 // Doubled where the bit is 1, with as many squarings.
-pub fn double(x: Counted, bit: u64, m: Modulus) -> Counted
-    requires { (x.residue.0 < m.n) × (bit ≤ 1) }
-    ensures { (bit ≡ 1 → result.residue.0 ≡ 2 * x.residue.0 % m.n) × (bit ≡ 0 → result.residue.0 ≡ x.residue.0) × (result.squarings ≡ x.squarings) }
+pub fn double(x: Counted, bit: u64, n: u64) -> Counted
+    requires { (x.residue.0 < n) × (n < 2 ^ 63) × (bit ≤ 1) }
+    ensures { (bit ≡ 1 → result.residue.0 ≡ 2 * x.residue.0 % n) × (bit ≡ 0 → result.residue.0 ≡ x.residue.0) × (result.squarings ≡ x.squarings) }
 {
     Counted {
-        residue: crate::double(x.residue, bit, m),
+        residue: crate::double(x.residue, bit, n),
         squarings: x.squarings,
     }
 }

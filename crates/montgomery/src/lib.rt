@@ -83,20 +83,21 @@ pub fn square(x: MontgomeryResidue, m: Modulus) -> MontgomeryResidue
 }
 
 // Twice x modulo n where the bit is 1, and x where it is 0: shifted by the bit, that less n, and the smaller of the two.
-pub fn double(x: MontgomeryResidue, bit: u64, m: Modulus) -> MontgomeryResidue
-    requires { (x.0 < m.n) × (bit ≤ 1) }
-    ensures { (bit ≡ 1 → result.0 ≡ 2 * x.0 % m.n) × (bit ≡ 0 → result.0 ≡ x.0) }
+pub fn double(x: MontgomeryResidue, bit: u64, n: u64) -> MontgomeryResidue
+    requires { (x.0 < n) × (n < 2 ^ 63) × (bit ≤ 1) }
+    ensures { (bit ≡ 1 → result.0 ≡ 2 * x.0 % n) × (bit ≡ 0 → result.0 ≡ x.0) }
 {
     let y = x.0 << bit;
-    let z = words::wrapping_sub(y, m.n);
+    let z = words::wrapping_sub(y, n);
     MontgomeryResidue(smaller(y, z))
 }
 
 // 2 in Montgomery form: 2^65 modulo n, by way of 2^64 - n, which fits a word.
-pub fn start(m: Modulus) -> MontgomeryResidue
-    ensures { result.0 ≡ montgomery m.n 2 }
+pub fn start(n: u64) -> MontgomeryResidue
+    requires { (0 < n) × (n < 2 ^ 63) }
+    ensures { result.0 ≡ montgomery n 2 }
 {
-    double(MontgomeryResidue((u64::MAX - m.n + 1) % m.n), 1, m)
+    double(MontgomeryResidue((u64::MAX - n + 1) % n), 1, n)
 }
 
 // The turn of Algorithm 5 for bit i of e.
@@ -105,7 +106,7 @@ pub fn turn(x: Counted, e: u64, i: u32, m: Modulus) -> Counted
     ensures { Standing m.n e i result }
 {
     let bit = (e >> i) & 1;
-    crate::counted::double(crate::counted::square(x, m), bit, m)
+    crate::counted::double(crate::counted::square(x, m), bit, m.n)
 }
 
 // The place of the top bit of e.
@@ -122,7 +123,7 @@ pub fn power(e: u64, m: Modulus) -> Counted
     requires { 0 < e }
     ensures { PowerOf m.n e result }
 {
-    let mut x = crate::counted::start(m);
+    let mut x = crate::counted::start(m.n);
     for i in (0..top(e)).rev() {
         x = turn(x, e, i, m);
     }

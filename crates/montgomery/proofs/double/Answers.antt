@@ -14,4 +14,4 @@ module _ (x n : ℕ) (l : x < n) (s : n < 2 ^ 63) where
 pub smaller-requires : goal.smaller-requires
 smaller-requires c =
     let b : c.wrapping_sub-z.result < 2 ^ 64 = search rules in
-    ordered _ _ _ (below _ _ c.requires.0 c.args.m.valid.small _ c.requires.1) c.args.m.valid.small b c.wrapping_sub-z.ensures
+    ordered _ _ _ (below _ _ c.requires.0 c.requires.1 _ c.requires.2) c.requires.1 b c.wrapping_sub-z.ensures

@@ -12,4 +12,4 @@ law n r h e = e ∙ to-% (trans (times (refl_mod 2) (trans (rem n (0xffff_ffff_f
     whole = record { k = 1; j = 0; eq = omega arith }
 
 pub returns : goal.returns
-returns c = law _ _ c.args.m.valid.small (c.double.ensures.0 refl)
+returns c = law _ _ c.requires.1 (c.double.ensures.0 refl)
