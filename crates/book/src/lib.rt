@@ -112,7 +112,7 @@ impl<'a, 'b> Books<'a, 'b> {
         if !self.in_order() {
             return Err(Refusal::OutOfOrder);
         }
-        if !self.ledger.same_run(run) {
+        if !ledger::same_run(self.ledger.bytes, run) {
             return Err(Refusal::OtherRun);
         }
         Ok(())

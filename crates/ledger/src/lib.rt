@@ -42,6 +42,15 @@ pub fn open(f: Series, run: Run, ledger: &mut [u8]) -> Answer
     Ok(0)
 }
 
+// Whether a ledger's run is the one that a call names.
+#[tactic(auto, unfolding(crate::specs::Ledger::pos_in, crate::specs::Ledger::blocks_in))]
+pub fn same_run(s: &[u8], run: Run) -> bool
+    requires { 10 ≤ length s.now }
+    ensures { result ≡ (eqb run.p (pos_in s.now) && eqb run.c (blocks_in s.now)) }
+{
+    run.p == words::get(s, 0, 8) && run.c == words::get(s, 8, 2)
+}
+
 // The bytes of a ledger, as many as one of its formula has.
 #[derive(Clone, Copy)]
 pub struct Ledger<'a> {
@@ -73,14 +82,6 @@ impl<'a> Ledger<'a> {
             && self.none_from(run.c as usize)
     }
 
-    // Whether its run is the one that a call names.
-    pub fn same_run(&self, run: Run) -> bool
-        ensures { result ≡ (eqb run.p (pos_in self.now.bytes.now) && eqb run.c (blocks_in self.now.bytes.now)) }
-    {
-        let own = self.run();
-        run.p == own.p && run.c == own.c
-    }
-
     // What the refusal table says of it, and of the run that a call names.
     #[tactic(auto, unfolding(run::specs::Refusal::refusal, run::specs::Refusal::answer, crate::specs::Ledger::view_of))]
     pub fn test_ledger(&self, run: Run) -> Result<(), Refusal>
@@ -89,7 +90,7 @@ impl<'a> Ledger<'a> {
         if !self.in_order() {
             return Err(Refusal::OutOfOrder);
         }
-        if !self.same_run(run) {
+        if !same_run(self.bytes, run) {
             return Err(Refusal::OtherRun);
         }
         Ok(())

@@ -19,6 +19,18 @@ pub fn start(f: Series) -> usize
     16 + 16 * series::formula::row_count(f)
 }
 
+// Whether the bit of a row and block is set.
+#[tactic(auto, unfolding(crate::specs::Ledger::bit_in))]
+pub fn bit_set(f: Series, s: &[u8], row: usize, block: usize) -> bool
+    requires { mark_at (limits_of (formula_of f)) row block < length s.now }
+    ensures { result ≡ bit_in (limits_of (formula_of f)) s.now row block }
+{
+    let byte = s[start(f) + (32 * row + block / 8)];
+    let bit = block % 8;
+    let shifted = byte >> bit;
+    shifted % 2 == 1
+}
+
 // Sets the bit of a row and block.
 pub fn set_bit(f: Series, ledger: &mut [u8], row: usize, block: usize)
     requires { (mark_at (limits_of (formula_of f)) row block < length ledger.old)
@@ -53,10 +65,7 @@ impl<'a> Ledger<'a> {
         requires { mark_at (limits_of (formula_of self.now.f)) row block < length self.now.bytes.now }
         ensures { result ≡ bit_in (limits_of (formula_of self.now.f)) self.now.bytes.now row block }
     {
-        let byte = self.bytes[start(self.f) + (32 * row + block / 8)];
-        let bit = block % 8;
-        let shifted = byte >> bit;
-        shifted % 2 == 1
+        bit_set(self.f, self.bytes, row, block)
     }
 
     // How many bits of a row are set, from block `first` up to, not including, `end`: by whole bytes where they lie between the two, so that a

@@ -1,4 +1,4 @@
--- `ledger::Ledger::bit_set` meets its contract: a shift to the right divides by a power of two.
+-- `ledger::marks::bit_set` meets its contract: a shift to the right divides by a power of two.
 -- Assumes nothing.
 use mathlib.Core.Path.{◌≡◌, ap}
 use mathlib.Core.List.{List}
@@ -7,7 +7,7 @@ use lib.Dec.{eqb}
 use lib.ListN.{get_or}
 use Rattle.run.specs.Run.{Limits}
 use Rattle.ledger.specs.Ledger.{marks_at, bit_in}
-use Rattle.ledger.proofs.Ledger.bit_set.Goals as goal
+use Rattle.ledger.proofs.marks.bit_set.Goals as goal
 
 law : (lim : Limits) (s : List ℕ) (start row block : ℕ) → start ≡ marks_at lim
     → eqb (get_or s (start + (32 * row + block / 8)) 0 / 2 ^ (block % 8) % 2) 1 ≡ bit_in lim s row block
