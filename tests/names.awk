@@ -100,7 +100,7 @@ function module_of(path,    step, i, below) {
 }
 
 # Functions, types and constants with their module, and with its last name alone; members of structs and enums, and the
-# functions of types.
+# functions of types, which may stand in another module of the type's crate.
 function read_source(text,    name) {
     if (FNR == 1) {
         module = module_of(FILENAME)
@@ -111,15 +111,17 @@ function read_source(text,    name) {
     line[++lines] = text
     if (text ~ /^ghost use /) read_use(text)
     if (text ~ /^\}/) holder = ""
-    if (text ~ /^impl .*[A-Za-z0-9] \{ *$/) {
+    if (text ~ /^impl.*\{ *$/) {
         holder = text
+        while (gsub(/<[^<>]*>/, "", holder)) continue
         sub(/ *\{ *$/, "", holder)
         holder = last_word(holder)
-    } else if (holder != "" && match(text, /^    (pub )?(fn )?[A-Za-z][A-Za-z0-9_]*/)) {
+    } else if (holder != "" && match(text, /^    (pub )?((fn|const) )?[A-Za-z][A-Za-z0-9_]*/)) {
         name = last_word(substr(text, 1, RLENGTH))
         define_member(name)
         item[holder "::" name]
         item[module "::" holder "::" name]
+        item[first_step(module) "::" holder "::" name]
     } else if (match(text, /^(pub )?(extern "C" )?(fn|struct|enum|const|static|mod|type) [A-Za-z][A-Za-z0-9_]*/)) {
         name = last_word(substr(text, 1, RLENGTH))
         define(name)
@@ -136,6 +138,11 @@ function last_word(text) {
     sub(/ +$/, "", text)
     sub(/.*[ *]/, "", text)
     return text
+}
+
+function first_step(path) {
+    sub(/::.*/, "", path)
+    return path
 }
 
 function last_step(path) {

@@ -15,7 +15,6 @@ use Rattle.algebra.specs.Whole.{quotient}
 use Rattle.algebra.proofs.Booleans.{and_left, and_right, and_both, left_fails, right_fails}
 use Rattle.algebra.proofs.Below.{all_ext}
 use Rattle.algebra.proofs.Integers.{sub_pos}
-use Rattle.words.specs.Bytes.{field}
 use Rattle.words.proofs.Order.{sub_exact}
 use Rattle.series.specs.Series.{Formula, row_count, term_count, plus, minus}
 use Rattle.series.specs.Fitting.{Position}

@@ -8,7 +8,6 @@ use native.Mathlib.Omega.{arith}
 use lib.IntN.{pos, negsuc}
 use lib.ListN.{length}
 use Rattle.algebra.proofs.Booleans.{and_left, and_right, and_both, left_fails, right_fails}
-use Rattle.words.specs.Bytes.{field}
 use Rattle.run.specs.Refusal.{Test, refusal, tested}
 use Rattle.run.specs.Run.{Entry, Limits, in_range, is_ticket}
 use Rattle.run.specs.Tests.{of_sizes}

@@ -11,7 +11,7 @@ use lib.Dec.{leb}
 use lib.IntN.{pos, negsuc}
 use lib.ListN.{length, get_or, take, drop, length-append}
 use Rattle.algebra.proofs.Booleans.{and_left, and_right, and_both, left_fails, right_fails}
-use Rattle.words.specs.Bytes.{bytes_of, field}
+use Rattle.words.specs.Bytes.{bytes_of}
 use Rattle.run.specs.Run.{Entry, Limits}
 use Rattle.run.specs.Tests.{of_sizes}
 use Rattle.std.specs.Prelude.{Ok, Err}

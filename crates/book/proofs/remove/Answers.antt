@@ -15,28 +15,6 @@ use Rattle.ledger.specs.RowSums.{value_at}
 use Rattle.book.proofs.Removing.{one_taken, removed}
 use Rattle.book.proofs.remove.Goals as goal
 
-pub bounds-sums-row : goal.bounds-sums-row
-bounds-sums-row c =
-    omega (arith, few_rows c.args.f, c.requires.row_in)
-
-pub offset_bounds-sums-row : goal.offset_bounds-sums-row
-offset_bounds-sums-row c =
-    let small : c.args.row < 7 = (omega (arith, few_rows c.args.f, c.requires.row_in)) in
-    omega (arith, small)
-
-pub offset_bounds-sums-row-2 : goal.offset_bounds-sums-row-2
-offset_bounds-sums-row-2 c =
-    let small : c.args.row < 7 = (omega (arith, few_rows c.args.f, c.requires.row_in)) in
-    omega (arith, small)
-
-pub bounds-sums-row-2 : goal.bounds-sums-row-2
-bounds-sums-row-2 c = (omega (arith, few_rows c.args.f, c.requires.row_in))
-
-pub clear_bit-requires : goal.clear_bit-requires
-clear_bit-requires c =
-    let given = c.requires in
-    (omega (arith, given), given.there)
-
 -- the difference is below 2 ^ 128, since both words of the call's result fit (`ok`)
 pub returns : goal.returns
 unfolding AllBytes value_at

@@ -1,10 +1,7 @@
 -- `book::row_total` meets its contract: after each turn the sums of the blocks passed are added up, modulo 2 ^ 128.
 -- Assumes nothing.
-use mathlib.Core.Path.{◌≡◌, ap, ◌∙◌}
+use mathlib.Core.Path.{ap, ◌∙◌}
 use Prim.Native.Nat.{ℕ, ◌+◌, ◌%◌}
-use native.Mathlib.Nat.{zero-add}
-use native.Mathlib.Omega.{arith}
-use Rattle.algebra.specs.Sum.{sum}
 use Rattle.algebra.proofs.Sums.{total_next}
 use Rattle.words.specs.Words.{joined}
 use Rattle.series.specs.Series.{modulus}
@@ -19,8 +16,3 @@ pub loop-block-preserved : goal.loop-block-preserved
 loop-block-preserved c =
     let total = c.loop-block.total in total_next modulus (kept_in c.args.book.now c.args.row) 0 _ _ _ c.loop-block.invariant
     (c.add-total.ensures ∙ ap (λ (k : ℕ). (joined total.hi total.lo + k) % modulus) c.kept.ensures)
-
-pub returns : goal.returns
-returns c =
-    let e : c.loop-block.block ≡ 256 = omega arith in
-    rw (e, zero-add (sum (kept_in c.args.book.now c.args.row) 0 256)) at c.loop-block.invariant

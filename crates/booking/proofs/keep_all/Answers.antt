@@ -15,9 +15,6 @@ pub loop-i-init : goal.loop-i-init
 unfolding entries_from
 loop-i-init c = refl
 
-pub body-requires : goal.body-requires
-body-requires c = (omega arith, omega arith)
-
 pub keep-requires : goal.keep-requires
 keep-requires c =
     inside (limits_of (formula_of c.args.f)) c.args.s.now c.args.book.now _ c.count-count.ensures.0 c.loop-i.book _ _ _

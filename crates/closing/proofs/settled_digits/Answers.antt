@@ -9,7 +9,7 @@ use borrow.Author.Tests.{ltb-true, ltb-false}
 use lib.IntN.{pos, sub_ℕ}
 use Rattle.algebra.proofs.Integers.{sub_pos}
 use Rattle.words.specs.Words.{joined}
-use Rattle.words.proofs.Joined.{joined_lt, joined_low}
+use Rattle.words.proofs.Joined.{joined_lt}
 use Rattle.words.proofs.Order.{sub_exact, add_exact, add_over}
 use Rattle.digits.specs.Digits.{settled}
 use Rattle.digits.proofs.TopDigits.{negative_none, over_none}

@@ -20,9 +20,6 @@ returns-then-not-in_order c =
     out_of_order _ _ _ (c.if-ledger-ledger_size.false ∙ c.ledger_size.ensures) c.if-digits-ne32.false
     (sym c.in_order.ensures ∙ c.if-not-in_order.true)
 
-pub invariant_of-ledger : goal.invariant_of-ledger
-invariant_of-ledger c = record { sized = c.if-ledger-ledger_size.false ∙ c.ledger_size.ensures }
-
 pub all_below-requires : goal.all_below-requires
 all_below-requires c = blocks_read _ c.args.ledger.now _ (sym c.in_order.ensures ∙ c.if-not-in_order.false) c.run.ensures.1
 
@@ -31,14 +28,6 @@ returns-then-not-all_below c =
     unmarked _ _ _ (c.if-ledger-ledger_size.false ∙ c.ledger_size.ensures) c.if-digits-ne32.false
     (sym c.in_order.ensures ∙ c.if-not-in_order.false)
     (sym (full_read (formula_of c.args.f) _ _ _ c.run.ensures.1 c.all_below.ensures) ∙ c.if-not-all_below.true)
-
-pub invariant_of-settle : goal.invariant_of-settle
-invariant_of-settle c = record {
-  ordered = record {
-    sized = c.if-ledger-ledger_size.false ∙ c.ledger_size.ensures;
-    ordered = sym c.in_order.ensures ∙ c.if-not-in_order.false;
-  };
-}
 
 pub returns-then-d-eq0 : goal.returns-then-d-eq0
 returns-then-d-eq0 c =

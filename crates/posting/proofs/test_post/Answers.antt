@@ -1,8 +1,6 @@
 -- `posting::test_post` meets its contract: one law for each way out.
 -- Assumes nothing.
 use mathlib.Core.Path.{sym, ◌∙◌}
-use native.Mathlib.Omega.{arith}
-use borrow.Author.Rules.{rules}
 use Rattle.std.proofs.lemmas.Result.{err_from_is_err_and}
 use Rattle.sheet.proofs.Form.{sheet_fits}
 use Rattle.ledger.proofs.Posting.{size_right, size_wrong}

@@ -2,7 +2,6 @@
 -- Assumes nothing.
 use Prim.Native.Nat.{ℕ, ◌+◌, ◌*◌, ◌/◌, ◌%◌, ◌≤◌}
 use native.Mathlib.Nat.{le_trans, mul-le-mul_right, mul-le-mul, mul-div-le, mod-lt, le_of_lt}
-use native.Mathlib.Omega.{arith}
 use Rattle.run.proofs.Blocks.{bound_parts, bound_le}
 use Rattle.run.proofs.bound.Goals as goal
 
@@ -15,15 +14,6 @@ module _ (K C i : ℕ) (h : 1 ≤ C) (l : i ≤ C) where
 
   sum : i * (K / C) + i * (K % C) / C ≤ K
   sum = rw (bound_parts K C i h) (bound_le K C i l)
-
-pub overflow_mul-result : goal.overflow_mul-result
-overflow_mul-result c = record { fits = omega (arith, wholes c.args.count _ _ c.requires.1 c.requires.3) }
-
-pub overflow_mul-result-2 : goal.overflow_mul-result-2
-overflow_mul-result-2 c = record { fits = omega (arith, rests c.args.count _ _ c.requires.1 c.requires.3, mul-le-mul c.requires.2 c.requires.2) }
-
-pub overflow_add-result : goal.overflow_add-result
-overflow_add-result c = record { fits = omega (arith, sum c.args.count _ _ c.requires.1 c.requires.3) }
 
 pub returns : goal.returns
 returns c = bound_parts _ _ _ c.requires.1

@@ -3,33 +3,21 @@
 use mathlib.Core.Path.{◌≡◌, refl}
 use native.Mathlib.Omega.{arith}
 use borrow.Author.Rules.{rules}
-use Rattle.series.proofs.FewRows.{few_rows}
 use Rattle.standing.proofs.Writing.{none_passed, place_left, none_there, one_there, all_passed}
 use Rattle.standing.proofs.put_tickets.Goals as goal
 
 pub loop-left-init : goal.loop-left-init
 loop-left-init c = (omega arith, refl, none_passed _ _ _ _ c.requires.0 _)
 
-pub overflow_add-place : goal.overflow_add-place
-overflow_add-place c = let few = few_rows c.args.books.now.ledger.f in omega (arith, few)
-
 pub bit_set-requires : goal.bit_set-requires
 bit_set-requires c =
     let inside = place_left _ _ _ _ c.requires.0 _ _ c.loop-left.invariant.2.0 c.loop-left-test.true c.loop-left.invariant.0 in
     omega (arith, inside)
 
-pub put_line-requires : goal.put_line-requires
-put_line-requires c =
-    let few = few_rows c.args.books.now.ledger.f in
-    (omega (arith, few), omega arith, omega arith)
-
 pub kept-requires : goal.kept-requires
 kept-requires c =
     let inside = place_left _ _ _ _ c.requires.0 _ _ c.loop-left.invariant.2.0 c.loop-left-test.true c.loop-left.invariant.0 in
     omega (arith, inside)
-
-pub put_body-requires : goal.put_body-requires
-put_body-requires c = (omega arith, omega arith)
 
 pub loop-left-smaller-then-bit_set : goal.loop-left-smaller-then-bit_set
 loop-left-smaller-then-bit_set c =
@@ -57,9 +45,6 @@ loop-left-preserved c =
       c.loop-left.invariant.1,
       none_there _ _ _ _ c.requires.0 _ c.requires.1 _ _ _ c.loop-left.invariant.2 _ c.bit_set.ensures c.if-bit_set.false,
     )
-
-pub shape_of-out : goal.shape_of-out
-shape_of-out c = c.loop-left.invariant.1
 
 pub returns : goal.returns
 returns c =

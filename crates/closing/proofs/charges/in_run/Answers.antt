@@ -34,10 +34,6 @@ all f added p s i e h =
 pub loop-row-init : goal.loop-row-init
 loop-row-init c = (sym (sum_none _ 0), omega arith)
 
-pub overflow_add-sum : goal.overflow_add-sum
-overflow_add-sum c =
-    record { fits = omega (arith, c.loop-row.invariant.1, c.in_row-sum.ensures.small) }
-
 pub loop-row-preserved : goal.loop-row-preserved
 loop-row-preserved c =
     let a = c.args in (

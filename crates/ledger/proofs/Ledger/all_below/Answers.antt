@@ -1,7 +1,5 @@
 -- `ledger::Ledger::all_below` meets its contract: the count is that of all tickets where all are set.
 -- Assumes nothing.
-use native.Mathlib.Nat.{mul-le-mul}
-use native.Mathlib.Omega.{arith}
 use Rattle.ledger.proofs.Counting.{all_bits}
 use Rattle.ledger.proofs.Ledger.all_below.Goals as goal
 

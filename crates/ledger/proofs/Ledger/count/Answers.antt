@@ -1,9 +1,6 @@
 -- `ledger::Ledger::count` meets its contract: at each turn the marks of the rows passed are counted.
 -- Assumes nothing.
-use mathlib.Core.Path.{◌≡◌}
 use native.Mathlib.Omega.{arith}
-use Rattle.series.specs.Names.{formula_of}
-use Rattle.series.specs.Series.{row_count}
 use Rattle.ledger.proofs.Counting.{no_row, one_row}
 use Rattle.ledger.proofs.Ledger.count.Goals as goal
 

@@ -3,7 +3,6 @@
 use mathlib.Core.Path.{◌≡◌}
 use Prim.Native.Nat.{◌+◌, ◌*◌, ◌/◌, ◌%◌}
 use native.Mathlib.Omega.{arith}
-use Rattle.series.proofs.FewRows.{few_rows}
 use Rattle.ledger.proofs.Counting.{at_most_one, no_block, one_block, eight_blocks}
 use Rattle.ledger.proofs.Ledger.count_row.Goals as goal
 

@@ -1,10 +1,8 @@
 -- `ledger::Ledger::sums` meets its contract: after each turn the sums of the rows passed are in the array, and the rest of it is 0.
 -- Assumes nothing.
-use mathlib.Core.Path.{◌≡◌, refl}
+use mathlib.Core.Path.{refl}
 use native.Mathlib.Omega.{arith}
 use borrow.Author.Rules.{rules}
-use Rattle.series.specs.Names.{formula_of}
-use Rattle.series.specs.Series.{row_count}
 use Rattle.ledger.proofs.RowSums.{none_read, one_read}
 use Rattle.ledger.proofs.Ledger.sums.Goals as goal
 

@@ -1,9 +1,5 @@
 -- `ledger::sums::total` meets its contract: after each turn the sums of the rows passed are added up, modulo 2 ^ 128.
 -- Assumes nothing.
-use mathlib.Core.Path.{◌≡◌}
-use native.Mathlib.Nat.{zero-add}
-use native.Mathlib.Omega.{arith}
-use Rattle.algebra.specs.Sum.{sum}
 use Rattle.algebra.proofs.Sums.{total_next}
 use Rattle.series.specs.Series.{modulus}
 use Rattle.ledger.specs.RowSums.{value_at}
