@@ -7,6 +7,7 @@ ghost use Rattle.interval.specs.Interval.{is_charged, charges};
 ghost use Rattle.interval.specs.Counts.{charged_in, side_count};
 
 use series::Series;
+use series::place::RowAt;
 
 // n terms where they are on the side that is counted, else none.
 pub fn on_side(same: bool, n: u64) -> u64
@@ -18,13 +19,12 @@ pub fn on_side(same: bool, n: u64) -> u64
 
 // Those of a row, among its added terms or its subtracted ones: k from 0 to (4n + l + 128) / step, the even ones with the sign of term 0,
 // the odd ones with that of term 1.
-pub fn in_row(f: Series, added: bool, p: u64, row: u64) -> u64
-    requires { Position (formula_of f) p × (row < row_count (formula_of f)) }
-    ensures counts { result ≡ side_count (formula_of f) (cond added plus minus) (row_at (formula_of f) row)
-        (charged_in (formula_of f) p (row_at (formula_of f) row)) }
+pub fn in_row(added: bool, at: RowAt) -> u64
+    ensures counts { result ≡ side_count (formula_of at.f) (cond added plus minus) (row_at (formula_of at.f) at.row)
+        (charged_in (formula_of at.f) at.p (row_at (formula_of at.f) at.row)) }
     ensures small { result ≤ 2 ^ 60 }
 {
-    let numbers = series::terms::numbers_of(f, p, row);
+    let numbers = series::terms::numbers_of(at);
     let count = numbers.rise / numbers.step + 1;
     on_side(numbers.even == added, (count + 1) / 2) + on_side(numbers.odd == added, count / 2)
 }
@@ -38,7 +38,7 @@ pub fn in_run(f: Series, added: bool, p: u64) -> u64
     let rows = series::formula::row_count(f) as u64;
     let mut sum = 0;
     for row in 0..rows {
-        sum += in_row(f, added, p, row);
+        sum += in_row(added, RowAt { f, p, row });
     }
     sum
 }

@@ -8,7 +8,7 @@ ghost use Rattle.series.specs.Names.{formula_of};
 ghost use Rattle.series.specs.Fitting.{Position};
 ghost use Rattle.series.specs.Results.{SumOf};
 
-use crate::Series;
+use crate::place::RowAt;
 use crate::store::Store;
 use crate::terms::Worked;
 use words::Wide;
@@ -57,12 +57,12 @@ pub fn by_halves(first: u64, count: u64, store: &mut Store) -> Worked
 
 // The signed sum of the sizes of a row's terms from `first` up to, not including, `end`, modulo 2^128, by halves, and their squarings.
 #[tactic(auto, using(crate::proofs::Numbers::short, crate::proofs::Table::fitting, crate::proofs::RangeSquarings::exact))]
-pub fn range_sum(f: Series, p: u64, row: u64, first: u64, end: u64) -> Worked
-    requires { Position (formula_of f) p × (row < row_count (formula_of f)) × (first ≤ end) × (end ≤ term_count (formula_of f) p) }
-    ensures { (joined result.sum.hi result.sum.lo ≡ range_sum (formula_of f) p (row_at (formula_of f) row) first (end - first))
-        × (joined result.squarings.hi result.squarings.lo ≡ range_squarings (formula_of f) p (row_at (formula_of f) row) first (end - first)) }
+pub fn range_sum(at: RowAt, first: u64, end: u64) -> Worked
+    requires { (first ≤ end) × (end ≤ term_count (formula_of at.f) at.p) }
+    ensures { (joined result.sum.hi result.sum.lo ≡ range_sum (formula_of at.f) at.p (row_at (formula_of at.f) at.row) first (end - first))
+        × (joined result.squarings.hi result.squarings.lo ≡ range_squarings (formula_of at.f) at.p (row_at (formula_of at.f) at.row) first (end - first)) }
 {
-    let mut store = Store::empty(crate::terms::terms_of(f, p, row, end));
+    let mut store = Store::empty(crate::terms::terms_of(at, end));
     if first < end {
         store.fill(first);
     }

@@ -4,6 +4,7 @@
 pub mod formula;
 pub mod groups;
 pub mod halves;
+pub mod place;
 pub mod squarings;
 pub mod store;
 pub mod terms;

@@ -7,7 +7,7 @@ ghost use Rattle.series.specs.Squarings as definition;
 ghost use Rattle.series.specs.Names.{formula_of, numbers_of};
 ghost use Rattle.series.specs.Fitting.{Position};
 
-use crate::Series;
+use crate::place::RowAt;
 use crate::terms::Numbers;
 use words::Wide;
 
@@ -34,12 +34,12 @@ pub fn cut_at(numbers: Numbers, first: u64, end: u64, b: u64) -> u64
 }
 
 // The squarings of a row's terms from `first` up to, not including, `end`: for each bit length, its squarings times the number of its terms.
-#[tactic(auto, using(crate::proofs::ByLengths::falling, crate::proofs::Numbers::step_positive, algebra::proofs::Sums::sum_none, words::proofs::Joined::joined_zero))]
-pub fn range_squarings(f: Series, p: u64, row: u64, first: u64, end: u64) -> Wide
-    requires { Position (formula_of f) p × (row < row_count (formula_of f)) × (first ≤ end) × (end ≤ term_count (formula_of f) p) }
-    ensures { joined result.hi result.lo ≡ range_squarings (formula_of f) p (row_at (formula_of f) row) first (end - first) }
+#[tactic(auto, using(crate::proofs::Numbers::step_positive, algebra::proofs::Sums::sum_none, words::proofs::Joined::joined_zero))]
+pub fn range_squarings(at: RowAt, first: u64, end: u64) -> Wide
+    requires { (first ≤ end) × (end ≤ term_count (formula_of at.f) at.p) }
+    ensures { joined result.hi result.lo ≡ range_squarings (formula_of at.f) at.p (row_at (formula_of at.f) at.row) first (end - first) }
 {
-    let numbers = crate::terms::numbers_of(f, p, row);
+    let numbers = crate::terms::numbers_of(at);
     let mut squarings = Wide::ZERO;
     let mut cut = cut_at(numbers, first, end, 6);
     for b in 6..63 {

@@ -8,6 +8,7 @@ ghost use Rattle.series.specs.Fitting.{Position, Workable};
 ghost use Rattle.series.specs.Results.{SignedAs, SizeOf, SumOf};
 
 use crate::Series;
+use crate::place::RowAt;
 use crate::workable::Terms;
 use montgomery::Quotient;
 use words::Wide;
@@ -42,28 +43,27 @@ pub fn term_count(f: Series, p: u64) -> u64
 
 // The numbers of a row at position p.
 #[tactic(auto, unfolding(crate::specs::Series::is_added))]
-pub fn numbers_of(f: Series, p: u64, row: u64) -> Numbers
-    requires { Position (formula_of f) p × (row < row_count (formula_of f)) }
-    ensures { result ≡ numbers_of (formula_of f) p (row_at (formula_of f) row) }
+pub fn numbers_of(at: RowAt) -> Numbers
+    ensures { result ≡ numbers_of (formula_of at.f) at.p (row_at (formula_of at.f) at.row) }
 {
-    let r = crate::formula::row_at(f, row);
+    let r = crate::formula::row_at(at.f, at.row);
     Numbers {
-        rise: 4 * (p - 1) + r.lead,
-        step: crate::formula::step(f),
+        rise: 4 * (at.p - 1) + r.lead,
+        step: crate::formula::step(at.f),
         m: r.m,
         j: r.j,
         even: r.added,
-        odd: r.added != crate::formula::alternates(f),
+        odd: r.added != crate::formula::alternates(at.f),
     }
 }
 
 // The terms of a row at position p before `end`.
-pub fn terms_of(f: Series, p: u64, row: u64, end: u64) -> Terms
-    requires { Position (formula_of f) p × (row < row_count (formula_of f)) × (end ≤ term_count (formula_of f) p) }
-    ensures { (result.numbers ≡ numbers_of (formula_of f) p (row_at (formula_of f) row)) × (result.end ≡ end) }
+pub fn terms_of(at: RowAt, end: u64) -> Terms
+    requires { end ≤ term_count (formula_of at.f) at.p }
+    ensures { (result.numbers ≡ numbers_of (formula_of at.f) at.p (row_at (formula_of at.f) at.row)) × (result.end ≡ end) }
 {
     Terms {
-        numbers: numbers_of(f, p, row),
+        numbers: numbers_of(at),
         end,
     }
 }
@@ -128,12 +128,12 @@ pub fn one_term(numbers: Numbers, k: u64, q: Quotient) -> Worked
 // The signed sum of the sizes of a row's terms from `first` up to, not including, `end`, modulo 2^128, and their squarings, which may be
 // more than a word holds.
 #[tactic(auto, using(crate::proofs::RangeSums::none, crate::proofs::RangeSums::and_part, crate::proofs::RangeSquarings::none_yet, crate::proofs::RangeSquarings::and_counts, words::proofs::Joined::joined_zero))]
-pub fn range_sum(f: Series, p: u64, row: u64, first: u64, end: u64) -> Worked
-    requires { Position (formula_of f) p × (row < row_count (formula_of f)) × (first ≤ end) × (end ≤ term_count (formula_of f) p) }
-    ensures { (joined result.sum.hi result.sum.lo ≡ range_sum (formula_of f) p (row_at (formula_of f) row) first (end - first))
-        × (joined result.squarings.hi result.squarings.lo ≡ range_squarings (formula_of f) p (row_at (formula_of f) row) first (end - first)) }
+pub fn range_sum(at: RowAt, first: u64, end: u64) -> Worked
+    requires { (first ≤ end) × (end ≤ term_count (formula_of at.f) at.p) }
+    ensures { (joined result.sum.hi result.sum.lo ≡ range_sum (formula_of at.f) at.p (row_at (formula_of at.f) at.row) first (end - first))
+        × (joined result.squarings.hi result.squarings.lo ≡ range_squarings (formula_of at.f) at.p (row_at (formula_of at.f) at.row) first (end - first)) }
 {
-    let terms = terms_of(f, p, row, end);
+    let terms = terms_of(at, end);
     let mut sum = Wide::ZERO;
     let mut squarings = Wide::ZERO;
     let mut k = first;

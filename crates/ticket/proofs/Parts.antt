@@ -41,7 +41,7 @@ module _ (F : Formula) (p C block : ℕ) (r : in_range (limits_of F) p C ≡ tru
 -- what working or quoting them asks
 pub ranged : (F : Formula) (part : Part) (p C row block first end : ℕ) → in_range (limits_of F) p C ≡ true → is_ticket (limits_of F) C row block ≡ true
     → first ≡ part_first F part p C block → end ≡ part_end F part p C block
-    → Position F p × (row < row_count F) × (first ≤ end) × (end ≤ term_count F p)
+    → (first ≤ end) × (end ≤ term_count F p)
 ranged F part p C row block first end r t f e =
     let o = ordered F p C block r (ticket_block _ C row block t) part in
-    (position F p C r, ticket_row _ C row block t, rw (f, e) o.0, rw e o.1)
+    (rw (f, e) o.0, rw e o.1)

@@ -13,6 +13,7 @@ ghost use Rattle.ticket.specs.Work.{is_sized, both_sized, part_tests, work_call,
 
 use run::{Answer, Refusal, Ticket};
 use series::Series;
+use series::place::RowAt;
 use series::terms::Worked;
 use std::ops::Range;
 use words::Wide;
@@ -42,25 +43,37 @@ pub fn range_of(f: Series, part: Part, t: Ticket) -> Range<u64>
 }
 
 // The sum of a part of a ticket, and its squarings: of the whole first to last, of a half by halves.
+#[tactic(auto, using(run::proofs::Range::position, run::proofs::Range::ticket_row))]
 pub fn sum(f: Series, part: Part, t: Ticket) -> Worked
     requires { (in_range (limits_of (formula_of f)) t.run.p t.run.c ≡ true) × (is_ticket (limits_of (formula_of f)) t.run.c t.row t.block ≡ true) }
     ensures { (joined result.sum.hi result.sum.lo ≡ part_sum (formula_of f) part t.run.p t.run.c t.row t.block)
         × (joined result.squarings.hi result.squarings.lo ≡ part_squarings (formula_of f) part t.run.p t.run.c t.row t.block) }
 {
+    let at = RowAt {
+        f,
+        p: t.run.p,
+        row: t.row,
+    };
     let range = range_of(f, part, t);
     match part {
-        Part::Whole => series::terms::range_sum(f, t.run.p, t.row, range.start, range.end),
-        _ => series::halves::range_sum(f, t.run.p, t.row, range.start, range.end),
+        Part::Whole => series::terms::range_sum(at, range.start, range.end),
+        _ => series::halves::range_sum(at, range.start, range.end),
     }
 }
 
 // The squarings of a part of a ticket, without its sum.
+#[tactic(auto, using(run::proofs::Range::position, run::proofs::Range::ticket_row))]
 pub fn squarings(f: Series, part: Part, t: Ticket) -> Wide
     requires { (in_range (limits_of (formula_of f)) t.run.p t.run.c ≡ true) × (is_ticket (limits_of (formula_of f)) t.run.c t.row t.block ≡ true) }
     ensures { joined result.hi result.lo ≡ part_squarings (formula_of f) part t.run.p t.run.c t.row t.block }
 {
+    let at = RowAt {
+        f,
+        p: t.run.p,
+        row: t.row,
+    };
     let range = range_of(f, part, t);
-    series::squarings::range_squarings(f, t.run.p, t.row, range.start, range.end)
+    series::squarings::range_squarings(at, range.start, range.end)
 }
 
 // What the refusal table says of working and of quoting: its tests in the order of their numbers.

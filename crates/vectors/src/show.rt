@@ -3,6 +3,7 @@
 use montgomery::Quotient;
 use run::{Run, Ticket};
 use series::Series;
+use series::place::RowAt;
 use std::io;
 use ticket::Part;
 
@@ -59,7 +60,7 @@ pub fn terms(rt: &impl Print, f: Series, table: &[(u64, u64, u64)]) -> io::Resul
             && row < series::formula::row_count(f) as u64
             && k < series::terms::term_count(f, p)
         {
-            let numbers = series::terms::numbers_of(f, p, row);
+            let numbers = series::terms::numbers_of(RowAt { f, p, row });
             let added = series::terms::is_added(numbers, k);
             let sign = if added { " +" } else { " -" };
             rt.print(sign)?;

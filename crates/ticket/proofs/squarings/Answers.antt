@@ -4,7 +4,7 @@ use mathlib.Core.Path.{◌≡◌}
 use Prim.Native.Nat.{ℕ, ◌-◌}
 use Rattle.series.specs.Series.{Formula, row_at}
 use Rattle.series.specs.Squarings.{range_squarings}
-use Rattle.run.proofs.Range.{ticket_block}
+use Rattle.run.proofs.Range.{ticket_block, ticket_row, position}
 use Rattle.ticket.specs.Parts.{part_first, part_end, part_squarings}
 use Rattle.ticket.specs.declared.Part.{Part}
 use Rattle.ticket.proofs.Parts.{ranged}

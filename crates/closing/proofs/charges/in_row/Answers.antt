@@ -65,6 +65,6 @@ module _ (f : Series) (p row : ℕ) (n : Numbers) (is : n ≡ numbers_of (formul
 
 pub returns : goal.returns
 returns c =
-    let a = c.args in
-    let h = few a.f a.p a.row _ c.numbers_of-numbers.ensures c.requires.0 c.requires.1 in
-    record { counts = ap₂ ◌+◌ c.on_side.ensures.counts c.on_side-2.ensures.counts ∙ counted a.f a.p a.row _ c.numbers_of-numbers.ensures a.added; small = omega (arith, h, c.on_side.ensures.small, c.on_side-2.ensures.small) }
+    let a = c.args.at in
+    let h = few a.f a.p a.row _ c.numbers_of-numbers.ensures a.there.0 a.there.1 in
+    record { counts = ap₂ ◌+◌ c.on_side.ensures.counts c.on_side-2.ensures.counts ∙ counted a.f a.p a.row _ c.numbers_of-numbers.ensures c.args.added; small = omega (arith, h, c.on_side.ensures.small, c.on_side-2.ensures.small) }

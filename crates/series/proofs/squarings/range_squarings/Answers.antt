@@ -9,7 +9,7 @@ use Rattle.series.specs.Names.{formula_of}
 use Rattle.series.proofs.Numbers.{step_positive, short, count_small}
 use Rattle.series.proofs.Table.{fitting}
 use Rattle.series.proofs.RangeSquarings.{exact}
-use Rattle.series.proofs.ByLengths.{by_lengths_lem}
+use Rattle.series.proofs.ByLengths.{by_lengths_lem, falling}
 use Rattle.series.proofs.squarings.range_squarings.Invariants.{passed}
 use Rattle.series.proofs.squarings.range_squarings.Goals as goal
 
@@ -26,6 +26,12 @@ in_all : (F : Formula) (p : ℕ) (r : Row) (first end : ℕ) → passed F p r fi
 unfolding by_lengths
 in_all F p r first end = refl
 
+pub overflow_sub-cut : goal.overflow_sub-cut
+overflow_sub-cut c =
+    let at = c.args.at in
+    let next = c.cut_at-next.ensures _ _ _ c.numbers_of-numbers.ensures in
+    rw (next, c.loop-b.invariant.1) (falling _ _ _ (step_positive at.f) c.args.first c.args.end c.requires.0 c.loop-b.b)
+
 pub loop-b-preserved : goal.loop-b-preserved
 loop-b-preserved c =
     let known = c.loop-b.invariant in
@@ -35,11 +41,12 @@ loop-b-preserved c =
 pub returns : goal.returns
 returns c =
     let a = c.args in
-    let F = formula_of a.f in
-    let r = row_at F a.row in
+    let at = a.at in
+    let F = formula_of at.f in
+    let r = row_at F at.row in
     let all : c.loop-b.b ≡ 63 = omega arith in
-    let few : a.end - a.first < 2 ^ 63 = omega (arith, count_small a.f a.p c.requires.0) in
-    let h = short a.f a.p r c.requires.0.high (fitting a.f a.row c.requires.1) in
-    exact F a.p r a.first _ _ h few
+    let few : a.end - a.first < 2 ^ 63 = omega (arith, count_small at.f at.p at.there.0) in
+    let h = short at.f at.p r at.there.0.high (fitting at.f at.row at.there.1) in
+    exact F at.p r a.first _ _ h few
     ((rw all at c.loop-b.invariant).0
-    ∙ ap (λ (n : ℕ). n % modulus) (in_all F a.p r a.first a.end ∙ by_lengths_lem F a.p r (step_positive a.f) a.first a.end c.requires.2 h))
+    ∙ ap (λ (n : ℕ). n % modulus) (in_all F at.p r a.first a.end ∙ by_lengths_lem F at.p r (step_positive at.f) a.first a.end c.requires.0 h))

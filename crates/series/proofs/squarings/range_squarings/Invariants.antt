@@ -15,6 +15,6 @@ passed F p r first end b = sum (λ i. i * of_length F p r first end i) 6 (b - 6)
 
 abbrev pub invariant-loop-b : goal.invariant-loop-b
 invariant-loop-b l =
-    let F = formula_of l.fn.f in
-    let r = row_at F l.fn.row in
-    (joined l.squarings.hi l.squarings.lo ≡ passed F l.fn.p r l.first l.end l.b % modulus) × (l.cut ≡ cut_at F l.fn.p r l.first l.end l.b)
+    let F = formula_of l.fn.at.f in
+    let r = row_at F l.fn.at.row in
+    (joined l.squarings.hi l.squarings.lo ≡ passed F l.fn.at.p r l.first l.end l.b % modulus) × (l.cut ≡ cut_at F l.fn.at.p r l.first l.end l.b)

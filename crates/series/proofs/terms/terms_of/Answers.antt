@@ -6,4 +6,4 @@ use Rattle.series.proofs.terms.terms_of.Goals as goal
 
 pub invariant_of-result : goal.invariant_of-result
 invariant_of-result c =
-    record { workable = rw c.numbers_of.ensures (workable _ _ _ _ c.requires.0 (fitting _ _ c.requires.1) c.requires.2) }
+    record { workable = rw c.numbers_of.ensures (workable _ _ _ _ c.args.at.there.0 (fitting _ _ c.args.at.there.1) c.requires) }
