@@ -119,7 +119,7 @@ impl<'a, 'b> Books<'a, 'b> {
     }
 }
 
-// Clears the bit of a row and block.
+// Clears the bit of a row and block. Apart from `set_bit`, as each asks for the bit that it is to change.
 pub fn clear_bit(f: Series, ledger: &mut [u8], row: usize, block: usize)
     requires { (mark_at (limits_of (formula_of f)) row block < length ledger.old)
         × (bit_in (limits_of (formula_of f)) ledger.old row block ≡ true) }

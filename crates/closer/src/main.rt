@@ -12,6 +12,8 @@ fn read_full(input: &mut impl Read, buffer: &mut [u8]) -> io::Result<usize>
     ensures { ReadsAtMost result buffer.new }
 {
     let mut done = 0;
+    // What a read gives is known only after it, and no method of `Read` fills a buffer as far as the input goes: `read_exact` fails where the
+    // input is shorter, `read_to_end` needs a heap.
     while done < buffer.len() {
         let count = input.read(&mut buffer[done..])?;
         if count == 0 {

@@ -1,4 +1,4 @@
-// The line that the closing program prints for a ledger, built in a buffer.
+// The line that the closing program prints for a ledger, built in a buffer: its contract has the bytes, which those of a stream have not.
 #![tactic(auto)]
 
 ghost use Rattle.std.specs.Prelude.{◌≡◌, ◌+◌, ◌≤◌, ◌<◌, length, take};

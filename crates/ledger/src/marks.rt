@@ -48,15 +48,7 @@ pub fn ones(byte: u8) -> usize
     ensures counts { result ≡ sum (λ i. byte / 2 ^ i % 2) 0 8 }
     ensures few { result ≤ 8 }
 {
-    let b = byte as usize;
-    b % 2
-        + (b >> 1) % 2
-        + (b >> 2) % 2
-        + (b >> 3) % 2
-        + (b >> 4) % 2
-        + (b >> 5) % 2
-        + (b >> 6) % 2
-        + (b >> 7) % 2
+    byte.count_ones() as usize
 }
 
 impl<'a> Ledger<'a> {

@@ -62,7 +62,7 @@ impl<'a> Laid<'a> {
 pub fn later(m: u64, n: u64) -> u64
     ensures { result ≡ definition.later m n }
 {
-    if m < n { n } else { m }
+    m.max(n)
 }
 
 // Whether two strings are in form.
@@ -140,7 +140,7 @@ pub fn part<'a>(first: &Laid<'a>, second: &Laid<'a>) -> &'a [u8]
     &first.digits[at..]
 }
 
-// Writes a place over 24 bytes: which string, the offset in it, the length.
+// Writes a place over 24 bytes: which string, 0 or 1 as C reads it, the offset in it, the length.
 pub fn put_place(out: &mut [u8], which: u64, at: u64, len: u64)
     requires { length out.old ≡ 24 }
     ensures { out.new ≡ bytes_of 8 which ++ bytes_of 8 at ++ bytes_of 8 len }

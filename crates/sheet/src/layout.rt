@@ -28,7 +28,7 @@ pub fn put_line(out: &mut [u8], i: usize, row: u64, block: u64)
     words::put(out, 16 + 4 * i, 4, row + 65536 * block);
 }
 
-// Writes body i of e: the sum of ticket i.
+// Writes body i of e: the sum of ticket i. The bodies begin past e entries; what is written to may be longer than the sheet.
 pub fn put_body(out: &mut [u8], e: usize, i: usize, sum: Wide)
     requires { (i < e) × (16 + 20 * e ≤ length out.old) }
     ensures { out.new

@@ -42,7 +42,7 @@ pub fn range_of(f: Series, part: Part, t: Ticket) -> Range<u64>
     }
 }
 
-// The sum of a part of a ticket, and its squarings: of the whole first to last, of a half by halves.
+// The sum of a part of a ticket, and its squarings: of the whole first to last, of a half by halves. Both ways are asked for.
 #[tactic(auto, using(run::proofs::Range::position, run::proofs::Range::ticket_row))]
 pub fn sum(f: Series, part: Part, t: Ticket) -> Worked
     requires { (in_range (limits_of (formula_of f)) t.run.p t.run.c ≡ true) × (is_ticket (limits_of (formula_of f)) t.run.c t.row t.block ≡ true) }
