@@ -42,7 +42,7 @@ pub fn open(f: Series, run: Run, ledger: &mut [u8]) -> Answer
     Ok(0)
 }
 
-// Whether a ledger's run is the one that a call names.
+// Whether the run of a ledger, or of what else begins as one does, is the one that a call names.
 #[tactic(auto, unfolding(crate::specs::Ledger::pos_in, crate::specs::Ledger::blocks_in))]
 pub fn same_run(s: &[u8], run: Run) -> bool
     requires { 10 ≤ length s.now }

@@ -19,7 +19,7 @@ pub fn start(f: Series) -> usize
     16 + 16 * series::formula::row_count(f)
 }
 
-// Whether the bit of a row and block is set.
+// Whether the bit of a row and block is set, of any bytes that have its place; `Ledger` has the same.
 #[tactic(auto, unfolding(crate::specs::Ledger::bit_in))]
 pub fn bit_set(f: Series, s: &[u8], row: usize, block: usize) -> bool
     requires { mark_at (limits_of (formula_of f)) row block < length s.now }
@@ -107,7 +107,8 @@ impl<'a> Ledger<'a> {
     // Whether every bit below c is set.
     pub fn all_below(&self, c: usize) -> bool
         requires { c ≤ 256 }
-        ensures { result ≡ all_below (row_count (formula_of self.now.f)) (λ row. all_below c (λ block. bit_in (limits_of (formula_of self.now.f)) self.now.bytes.now row block)) }
+        ensures { result ≡ all_below (row_count (formula_of self.now.f)) (λ row. all_below c (λ block.
+            bit_in (limits_of (formula_of self.now.f)) self.now.bytes.now row block)) }
     {
         self.count(0, c) == series::formula::row_count(self.f) * c
     }

@@ -82,7 +82,8 @@ pub fn square(x: MontgomeryResidue, m: Modulus) -> MontgomeryResidue
     MontgomeryResidue(smaller(sum, words::wrapping_sub(sum, m.n)))
 }
 
-// Twice x modulo n where the bit is 1, and x where it is 0: shifted by the bit, that less n, and the smaller of the two.
+// Twice x modulo n where the bit is 1, and x where it is 0: shifted by the bit, that less n, and the smaller of the two. It holds of an even n as
+// well, so it takes no `Modulus`; so does the start.
 pub fn double(x: MontgomeryResidue, bit: u64, n: u64) -> MontgomeryResidue
     requires { (x.0 < n) × (n < 2 ^ 63) × (bit ≤ 1) }
     ensures { (bit ≡ 1 → result.0 ≡ 2 * x.0 % n) × (bit ≡ 0 → result.0 ≡ x.0) }

@@ -80,7 +80,8 @@ pub fn is_added(numbers: Numbers, k: u64) -> bool
     }
 }
 
-// The size of term k, and the squarings that it takes: none where E is below 128. Where E is below 0 the size is 0.
+// The size of term k, and the squarings that it takes: none where E is below 128. Where E is below 0 the size is 0. It asks of the numbers only
+// that this one term can be worked.
 #[tactic(auto, using(words::proofs::Joined::joined_zero), unfolding(crate::specs::Series::size, crate::specs::Squarings::squarings))]
 pub fn size(numbers: Numbers, k: u64) -> Quotient
     requires { Workable numbers (k + 1) }

@@ -7,7 +7,7 @@ use series::place::RowAt;
 use std::io;
 use ticket::Part;
 
-// What stands before the first word of a line: check runs have names of their own.
+// What stands before the first word of a line, the one place that says it: check runs have names of their own.
 fn prefix(f: Series) -> &'static str {
     match f {
         Series::Bellard => "",

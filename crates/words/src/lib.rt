@@ -107,7 +107,7 @@ pub fn sub(a: Wide, b: Wide) -> Wide
     }
 }
 
-// Whether a is below b.
+// Whether a is below b: what the derived order of the two words says of their number.
 #[tactic(auto, unfolding(crate::specs::Words::joined))]
 pub fn is_less(a: Wide, b: Wide) -> bool
     ensures { result ≡ nat_lt (joined a.hi a.lo) (joined b.hi b.lo) }
@@ -115,7 +115,7 @@ pub fn is_less(a: Wide, b: Wide) -> bool
     a < b
 }
 
-// Whether a and b are equal.
+// Whether a and b are equal, of their numbers as well.
 #[tactic(auto, unfolding(crate::specs::Words::joined))]
 pub fn is_equal(a: Wide, b: Wide) -> bool
     ensures { result ≡ (joined a.hi a.lo == joined b.hi b.lo) }
