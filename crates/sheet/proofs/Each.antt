@@ -1,23 +1,42 @@
--- The tests over a sheet's entries, and over the pairs of a list, as loops make them: one by one.
+-- The tests over a sheet's entries, and over the pairs of a list, as the code makes them: one by one.
 -- Assumes nothing.
 use mathlib.Core.Path.{◌≡◌, refl, sym, ap, ◌∙◌, ap₂}
-use mathlib.Core.Bool.{Bool, true, false, ◌&&◌}
+use mathlib.Core.Bool.{Bool, ◌&&◌}
 use mathlib.Core.List.{List, [], ◌∷◌, ◌++◌}
-use Prim.Native.Nat.{ℕ, zero, suc, ◌+◌, ◌<◌, ◌≤◌, ◌*◌, ◌/◌}
+use Prim.Native.Nat.{ℕ, zero, suc, ◌+◌, ◌-◌, ◌<◌, ◌*◌, ◌/◌}
 use native.Mathlib.Nat.{zero-add, add-zero, add-suc, suc-add, le_of_suc-le-suc, not-suc-le-zero}
 use native.Mathlib.Numerals.{add-one}
 use native.Mathlib.Omega.{arith}
-use borrow.Author.Tests.{le-ltb}
 use lib.Dec.{ltb}
 use lib.ListN.{length, get_or}
+use Rattle.std.specs.List.{list_all, range_with_len}
 use Rattle.algebra.specs.Test.{all_below}
-use Rattle.algebra.proofs.Below.{all_true, all_at, all_ext, below_false, below_front}
+use Rattle.algebra.proofs.Below.{all_ext, below_front}
 use Rattle.words.specs.Bytes.{field}
 use Rattle.words.proofs.Bytes.{field_next, field_none}
 use Rattle.series.specs.Series.{Formula}
 use Rattle.run.specs.Run.{Entry, Limits, is_ticket, ticket_sum}
 use Rattle.sheet.specs.Sheet.{row_in, block_in, sum_in, entries_from, every, key, ascending, all_tickets, listed}
 use Rattle.sheet.proofs.Many.{count_entries, count_listed}
+
+-- ---- over a range of numbers
+
+-- a test over the n numbers from a on, f telling what it says of each
+all_from : (test f : ℕ → Bool) (n a : ℕ) → ((j : ℕ) → j < n → test (a + j) ≡ f j) → list_all test (range_with_len a n) ≡ all_below n f
+unfolding all_below
+all_from test f zero a h = refl
+all_from test f (suc n) a h =
+    let first : a ≡ a + 0 = omega arith in
+    let next : (j : ℕ) → a + 1 + j ≡ a + suc j = λ j. omega arith in
+    ap₂ ◌&&◌ (ap test first ∙ h 0 (omega arith))
+    (all_from test (λ j. f (suc j)) n (a + 1) (λ j l. ap test (next j) ∙ h (suc j) (omega arith)))
+    ∙ sym (below_front n f)
+
+-- the range of the numbers below n
+pub all_in : (test : ℕ → Bool) (n : ℕ) → list_all test (range_with_len 0 (n - 0)) ≡ all_below n test
+all_in test n =
+    let size : n - 0 ≡ n = omega arith in
+    all_from test test (n - 0) 0 (λ j h. ap test (zero-add j)) ∙ ap (λ (m : ℕ). all_below m test) size
 
 -- ---- over a list
 
@@ -45,6 +64,18 @@ ascending_all [] n h = absurd (omega arith)
 ascending_all (t ∷ ts) n h =
     let size : length ts ≡ n = omega arith in
     ascending_each t ts ∙ ap (λ (m : ℕ). all_below m (λ j. ltb (key (get_or (t ∷ ts) j nothing)) (key (get_or ts j nothing)))) size
+
+-- each key with the one before it, k i being the key of entry i
+neighbours : (l : List Entry) (n : ℕ) (k : ℕ → ℕ) → length l ≡ n → ((i : ℕ) → i < n → key (get_or l i nothing) ≡ k i)
+    → list_all (λ i. ltb (k (i - 1)) (k i)) (range_with_len 1 (n - 1)) ≡ ascending l
+unfolding ascending
+neighbours [] n k size at = let none : n - 1 ≡ 0 = omega arith in rw none refl
+neighbours (t ∷ ts) n k size at =
+    let some : length (t ∷ ts) ≡ suc (n - 1) = omega arith in
+    let before : (j : ℕ) → 1 + j - 1 ≡ j = λ j. omega arith in
+    let this : (j : ℕ) → 1 + j ≡ suc j = λ j. omega arith in
+    all_from _ _ (n - 1) 1 (λ j h. rw (before j, this j, at j (omega arith), at (suc j) (omega arith)) refl)
+    ∙ sym (ascending_all (t ∷ ts) (n - 1) some)
 
 -- ---- over the entries of a sheet
 
@@ -87,16 +118,10 @@ ascending_entries s n =
     ascending_all (entries_from s 0 (suc n)) n (count_entries s (suc n) 0)
     ∙ all_ext n _ _ (λ j h. rw (entry_at s (suc n) j (omega arith), entry_at s (suc n) (suc j) (omega arith), add-one j) refl)
 
--- ---- the loop that compares neighbours
-
-pub ascends : (s : List ℕ) (n i : ℕ) → n ≤ i + 1 → all_below i (rises s) ≡ true → true ≡ ascending (entries_from s 0 n)
-unfolding entries_from ascending
-ascends s zero i h a = refl
-ascends s (suc n) i h a = sym (ascending_entries s n ∙ all_true n (rises s) (λ j l. all_at i (rises s) a j (omega arith)))
-
-pub falls : (s : List ℕ) (n i : ℕ) → i + 1 < n → key (entry s (i + 1)) ≤ key (entry s i) → false ≡ ascending (entries_from s 0 n)
-falls s zero i h l = absurd (not-suc-le-zero h)
-falls s (suc n) i h l = sym (ascending_entries s n ∙ below_false n (rises s) i (omega arith) (le-ltb _ _ l))
+-- each entry with the one before it, as the code compares them
+pub entries_neighbours : (s : List ℕ) (n : ℕ)
+    → list_all (λ i. ltb (key (entry s (i - 1))) (key (entry s i))) (range_with_len 1 (n - 1)) ≡ ascending (entries_from s 0 n)
+entries_neighbours s n = neighbours _ n (λ i. key (entry s i)) (count_entries s n 0) (λ i h. ap key (entry_at s n i h))
 
 -- the ticket of a row and a block, with its sum
 abbrev pub worked : Formula → ℕ → ℕ → ℕ → ℕ → Entry
@@ -142,39 +167,7 @@ module _ (F : Formula) (p C : ℕ) where
         let none = field_none list (2 * i + 1 + 1) in
         ap key (pair_at i h) ∙ omega (arith, high, low, none)
 
--- ---- the loop that compares neighbours
-
--- pair j is below the next one
-abbrev pub pair_rises : List ℕ → ℕ → Bool
-pair_rises list j = ltb (field list (2 * j) 2) (field list (2 * (j + 1)) 2)
-
-module _ (list : List ℕ) (e : ℕ) (size : length list ≡ 2 * e) (F : Formula) (p C : ℕ) where
-  rises_at : (j : ℕ) → j + 1 < e
-      → ltb (key (get_or (listed F p C list) j nothing)) (key (get_or (listed F p C list) (suc j) nothing)) ≡ pair_rises list j
-  rises_at j h =
-      ap₂ ltb (key_at F p C list e size j (omega arith))
-      (ap (λ (n : ℕ). key (get_or (listed F p C list) n nothing)) (sym (add-one j)) ∙ key_at F p C list e size (j + 1) h)
-
-  none_left : (n : ℕ) → e ≡ n → n ≡ 0 → ascending (listed F p C list) ≡ true
-  unfolding ascending
-  none_left n en z = go (listed F p C list) (count F p C list e size ∙ en ∙ z)
-    where
-      go : (l : List Entry) → length l ≡ 0 → ascending l ≡ true
-      go [] h = refl
-      go (t ∷ ts) h = absurd (omega arith)
-
-  pub pairs_ascend : (i : ℕ) → e ≤ i + 1 → all_below i (pair_rises list) ≡ true → true ≡ ascending (listed F p C list)
-  pairs_ascend i h a = go e refl
-    where
-      go : (n : ℕ) → e ≡ n → true ≡ ascending (listed F p C list)
-      go zero en = sym (none_left zero en refl)
-      go (suc n) en = sym (ascending_all (listed F p C list) n (count F p C list e size ∙ en)
-          ∙ all_true n _ (λ j l. rises_at j (omega arith) ∙ all_at i (pair_rises list) a j (omega arith)))
-
-  pub pairs_fall : (i : ℕ) → i + 1 < e → field list (2 * (i + 1)) 2 ≤ field list (2 * i) 2 → false ≡ ascending (listed F p C list)
-  pairs_fall i h l = go e refl
-    where
-      go : (n : ℕ) → e ≡ n → false ≡ ascending (listed F p C list)
-      go zero en = absurd (omega arith)
-      go (suc n) en = sym (ascending_all (listed F p C list) n (count F p C list e size ∙ en)
-          ∙ below_false n _ i (omega arith) (rises_at i h ∙ le-ltb _ _ l))
+    -- each pair with the one before it, as the code compares them
+    pub pairs_neighbours :
+        list_all (λ i. ltb (field list (2 * (i - 1)) 2) (field list (2 * i) 2)) (range_with_len 1 (e - 1)) ≡ ascending (listed F p C list)
+    pairs_neighbours = neighbours _ e (λ i. field list (2 * i) 2) count key_at

@@ -67,24 +67,14 @@ impl<'a> Pairs<'a> {
     pub fn ascending(&self) -> bool
         ensures { (F : Formula) (p C : ℕ) → result ≡ definition.ascending (listed F p C self.now.bytes.now) }
     {
-        for i in 1..self.count {
-            if self.key(i) <= self.key(i - 1) {
-                return false;
-            }
-        }
-        true
+        (1..self.count).all(|i| self.key(i - 1) < self.key(i))
     }
 
     // Whether all are tickets of a run with c blocks.
     pub fn all_tickets(&self, f: Series, c: u64) -> bool
         ensures { (p : ℕ) → result ≡ all_tickets (limits_of (formula_of f)) c (listed (formula_of f) p c self.now.bytes.now) }
     {
-        for i in 0..self.count {
-            if !run::is_ticket(f, c, self.row(i), self.block(i)) {
-                return false;
-            }
-        }
-        true
+        (0..self.count).all(|i| run::is_ticket(f, c, self.row(i), self.block(i)))
     }
 }
 

@@ -1,7 +1,6 @@
 -- `sheet::contents::Entries::zero_bytes` meets its contract: at each turn the zero byte of every entry passed is zero.
 -- Assumes nothing.
-use mathlib.Core.Path.{◌≡◌, sym}
-use native.Mathlib.Omega.{arith}
+use mathlib.Core.Path.{sym}
 use borrow.Author.Tests.{eq-eqb, ne_eqb}
 use Rattle.algebra.proofs.Below.{below_none, below_next, below_false}
 use Rattle.sheet.proofs.contents.Entries.zero_bytes.Goals as goal
