@@ -212,7 +212,7 @@ with words 'impl Wide {
 }'
 in_function ticket::sum 's/let range = /let bill = first.bill(); &/'
 told "${work}_work: comes to the quote "
-damaged series::store::Store::fill 's/crate::terms::size\(.*\);/& let c = crate::squarings::reaching(self.terms.numbers, 128);/' \
+damaged series::store::Store::filled 's/crate::terms::size\(.*\);/& let c = crate::squarings::reaching(terms.numbers, 128);/' \
     "${work}_work: comes to the quote series::squarings::reaching"
 for call in work work_lower work_upper check_work check_work_lower check_work_upper; do
     damaged ${work}_$call 's/ticket::work\(/ticket::quote(/' "${work}_$call: comes to the quote "

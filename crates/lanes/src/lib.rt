@@ -13,7 +13,7 @@ use std::array;
 
 // 2 in Montgomery form in each lane. Only `start` makes a `Counted`, so the array begins with that of lane 0 in all lanes.
 // With `from_fn`, as `moduli` has it, the search leaves goals about the closure here and in `quotients`, which the loops do not have.
-fn starts(m: [Modulus; 8]) -> [Counted; 8]
+pub fn starts(m: [Modulus; 8]) -> [Counted; 8]
     ensures { Each (λ j. Started (modulus m j).n (lane result j)) }
 {
     let mut x = [montgomery::counted::start(m[0].n); 8];

@@ -17,7 +17,7 @@ use series::Series;
 use sheet::contents;
 use sheet::contents::{Entries, Sheet};
 
-// Whether none of e entries, each of a row and block that the ledger has, has its bit set.
+// Whether none of the entries, each of a row and block that the ledger has, has its bit set.
 pub fn none_marked(ledger: &Ledger, entries: &Entries) -> bool
     requires { all_tickets (limits_of (formula_of ledger.now.f)) 256 (entries_from entries.now.bytes.now 0 entries.now.count) ≡ true }
     ensures { result ≡ every (unset (limits_of (formula_of ledger.now.f)) ledger.now.bytes.now)

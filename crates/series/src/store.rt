@@ -32,19 +32,37 @@ impl Store {
         }
     }
 
-    // Works the group from term k on, or the term k alone where there is no group before the end.
+    // A store of the group from term k on, or of the term k alone where there is no group before the end.
+    pub fn filled(terms: Terms, k: u64) -> Store
+        requires { k < terms.end }
+        ensures { (result.terms ≡ terms) × (result.first ≡ k) × (0 < result.held) }
+    {
+        if crate::groups::grouped(&terms, k) {
+            let sizes = crate::groups::sizes(&terms, k);
+            return Store {
+                terms,
+                first: k,
+                held: 8,
+                sizes,
+            };
+        }
+        let mut sizes = [Quotient::ZERO; 8];
+        sizes[0] = crate::terms::size(terms.numbers, k);
+        Store {
+            terms,
+            first: k,
+            held: 1,
+            sizes,
+        }
+    }
+
+    // The same in place of what is held, whatever that is.
     pub fn fill(&mut self, k: u64)
         requires { k < self.old.terms.end }
         ensures { (self.new.terms ≡ self.old.terms) × (self.new.first ≡ k) × (0 < self.new.held) }
     {
-        self.first = k;
-        if crate::groups::grouped(&self.terms, k) {
-            self.sizes = crate::groups::sizes(&self.terms, k);
-            self.held = 8;
-        } else {
-            self.sizes[0] = crate::terms::size(self.terms.numbers, k);
-            self.held = 1;
-        }
+        let store = Store::filled(self.terms, k);
+        *self = store;
     }
 
     // The size of term k and its squarings, from the store, which is filled from k on where it does not hold k.
@@ -52,7 +70,7 @@ impl Store {
         requires { k < self.old.terms.end }
         ensures { (self.new.terms ≡ self.old.terms) × SizeOf self.old.terms.numbers k result }
     {
-        let mut place = std::num::wrapping_sub_u64(k, self.first);
+        let mut place = k.wrapping_sub(self.first);
         if self.held <= place {
             self.fill(k);
             place = 0;
