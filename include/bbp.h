@@ -89,7 +89,7 @@ extern "C" {
 /* The version. BBP_VERSION grows from each version to the next, so that #if can compare it. */
 #define BBP_VERSION_MAJOR 4
 #define BBP_VERSION_MINOR 3
-#define BBP_VERSION_PATCH 1
+#define BBP_VERSION_PATCH 2
 #define BBP_VERSION (1000000 * BBP_VERSION_MAJOR + 1000 * BBP_VERSION_MINOR + BBP_VERSION_PATCH)
 #define BBP_VERSION_STRING \
     BBP_QUOTED(BBP_VERSION_MAJOR) "." BBP_QUOTED(BBP_VERSION_MINOR) "." BBP_QUOTED(BBP_VERSION_PATCH)

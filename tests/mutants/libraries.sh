@@ -82,7 +82,8 @@ state 1 'int f(void) { static __thread int calls; return ++calls; }'
 state 1 'int f(void) { static __thread int calls = 1; return ++calls; }'
 state 1 'int calls; int f(void) { return ++calls; }'
 state 1 'void *malloc(unsigned long); void *f(void) { return malloc(16); }'
-state 0 'void *memcpy(void *, const void *, unsigned long); void *f(void *x, void *y, int i) { return memcpy(x, y, i); }'
+state 1 'void *memcpy(void *, const void *, unsigned long); void *f(void *x, void *y, int i) { return memcpy(x, y, i); }'
+state 0 'void *memset(void *, int, unsigned long); void *f(void *x, int y, int i) { return memset(x, y, i); }'
 try 1 tests/state.sh "$standin"
 try 0 tests/branches.sh "$standin"
 ${CC:-gcc} -std=c99 -D_GNU_SOURCE -Iinclude -O2 -DBRANCH -c tests/mutants/engine.c -o "$directory/engine.o"

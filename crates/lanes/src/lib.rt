@@ -11,14 +11,16 @@ use montgomery::counted::Counted;
 use montgomery::modulus::Modulus;
 use std::array;
 
-// 2 in Montgomery form in each lane. Only `start` makes a `Counted`, so the array begins with that of lane 0 in all lanes.
-// With `from_fn`, as `moduli` has it, the search leaves goals about the closure here and in `quotients`, which the loops do not have.
-pub fn starts(m: [Modulus; 8]) -> [Counted; 8]
-    ensures { Each (λ j. Started (modulus m j).n (lane result j)) }
+// 2 in Montgomery form in each lane, for even n as well, so it takes no `Modulus`. Only `start` makes a `Counted`, so the array begins with
+// that of lane 0 in all lanes. With `from_fn`, as `moduli` has it, the search leaves goals about the closure here and in `quotients`, which the
+// loops do not have.
+pub fn starts(n: [u64; 8]) -> [Counted; 8]
+    requires { Each (λ j. (0 < at n j) × (at n j < 2 ^ 63)) }
+    ensures { Each (λ j. Started (at n j) (lane result j)) }
 {
-    let mut x = [montgomery::counted::start(m[0].n); 8];
+    let mut x = [montgomery::counted::start(n[0]); 8];
     for j in 1..8 {
-        x[j] = montgomery::counted::start(m[j].n);
+        x[j] = montgomery::counted::start(n[j]);
     }
     x
 }
@@ -34,12 +36,23 @@ pub fn turns(mut x: [Counted; 8], e: [u64; 8], i: u32, m: [Modulus; 8]) -> [Coun
     x
 }
 
+// The number of each lane's modulus.
+pub fn numbers(m: [Modulus; 8]) -> [u64; 8]
+    ensures { Each (λ j. at result j ≡ (modulus m j).n) }
+{
+    let mut n = [0; 8];
+    for j in 0..8 {
+        n[j] = m[j].n;
+    }
+    n
+}
+
 // 2^e in Montgomery form in each lane, for exponents of one bit length.
 pub fn powers(e: [u64; 8], m: [Modulus; 8]) -> [Counted; 8]
     requires { Each (λ j. (0 < at e j) × (bit_length (at e j) ≡ bit_length (at e 0))) }
     ensures { Each (λ j. PowerOf (modulus m j).n (at e j) (lane result j)) }
 {
-    let mut x = starts(m);
+    let mut x = starts(numbers(m));
     for i in (0..montgomery::top(e[0])).rev() {
         // The check does not cover a call whose result is put in an array that is there.
         let y = turns(x, e, i, m);

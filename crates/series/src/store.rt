@@ -32,37 +32,35 @@ impl Store {
         }
     }
 
-    // A store of the group from term k on, or of the term k alone where there is no group before the end.
-    pub fn filled(terms: Terms, k: u64) -> Store
-        requires { k < terms.end }
-        ensures { (result.terms ≡ terms) × (result.first ≡ k) × (0 < result.held) }
-    {
-        if crate::groups::grouped(&terms, k) {
-            let sizes = crate::groups::sizes(&terms, k);
-            return Store {
-                terms,
-                first: k,
-                held: 8,
-                sizes,
-            };
-        }
-        let mut sizes = [Quotient::ZERO; 8];
-        sizes[0] = crate::terms::size(terms.numbers, k);
-        Store {
-            terms,
-            first: k,
-            held: 1,
-            sizes,
-        }
-    }
-
-    // The same in place of what is held, whatever that is.
+    // Works the group from term k on in place of what is held, whatever that is, or the term k alone where there is no group before the end. The
+    // sizes are put one by one into the array that is there: one that is moved as a whole is copied by `memcpy`, which C would have to bring along.
     pub fn fill(&mut self, k: u64)
         requires { k < self.old.terms.end }
         ensures { (self.new.terms ≡ self.old.terms) × (self.new.first ≡ k) × (0 < self.new.held) }
     {
-        let store = Store::filled(self.terms, k);
-        *self = store;
+        let terms = self.terms;
+        self.first = k;
+        self.held = 0;
+        if crate::groups::grouped(&terms, k) {
+            let sizes = crate::groups::sizes(&terms, k);
+            for j in 0..8 {
+                self.sizes[j] = sizes[j];
+            }
+            self.held = 8;
+        } else {
+            self.sizes[0] = crate::terms::size(terms.numbers, k);
+            self.held = 1;
+        }
+    }
+
+    // A store that is filled so: it asks for the terms alone.
+    pub fn filled(terms: Terms, k: u64) -> Store
+        requires { k < terms.end }
+        ensures { (result.terms ≡ terms) × (result.first ≡ k) × (0 < result.held) }
+    {
+        let mut store = Store::empty(terms);
+        store.fill(k);
+        store
     }
 
     // The size of term k and its squarings, from the store, which is filled from k on where it does not hold k.

@@ -15,7 +15,6 @@ use run::{Answer, Refusal, Ticket};
 use series::Series;
 use series::place::RowAt;
 use series::terms::Worked;
-use std::ops::Range;
 use words::Wide;
 
 // Which of a ticket's terms are worked: all of them, or those below or from the cut on.
@@ -26,19 +25,26 @@ pub enum Part {
     Upper,
 }
 
+// Terms from `first` up to, not including, `end`. Apart from std's `Range`, which cannot be copied.
+#[derive(Clone, Copy)]
+pub struct Range {
+    pub first: u64,
+    pub end: u64,
+}
+
 // The terms of a part of a ticket. Both bounds are below 2^63, so their sum fits a word.
-pub fn range_of(f: Series, part: Part, t: Ticket) -> Range<u64>
+pub fn range_of(f: Series, part: Part, t: Ticket) -> Range
     requires { (in_range (limits_of (formula_of f)) t.run.p t.run.c ≡ true) × (t.block < t.run.c) }
-    ensures { (result.start ≡ part_first (formula_of f) part t.run.p t.run.c t.block) × (result.end ≡ part_end (formula_of f) part t.run.p t.run.c t.block) }
+    ensures { (result.first ≡ part_first (formula_of f) part t.run.p t.run.c t.block) × (result.end ≡ part_end (formula_of f) part t.run.p t.run.c t.block) }
 {
     let count = series::terms::term_count(f, t.run.p);
     let first = run::bound(count, t.run.c, t.block);
     let end = run::bound(count, t.run.c, t.block + 1);
     let cut = (first + end) / 2;
     match part {
-        Part::Whole => first..end,
-        Part::Lower => first..cut,
-        Part::Upper => cut..end,
+        Part::Whole => Range { first, end },
+        Part::Lower => Range { first, end: cut },
+        Part::Upper => Range { first: cut, end },
     }
 }
 
@@ -56,8 +62,8 @@ pub fn sum(f: Series, part: Part, t: Ticket) -> Worked
     };
     let range = range_of(f, part, t);
     match part {
-        Part::Whole => series::terms::range_sum(at, range.start, range.end),
-        _ => series::halves::range_sum(at, range.start, range.end),
+        Part::Whole => series::terms::range_sum(at, range.first, range.end),
+        _ => series::halves::range_sum(at, range.first, range.end),
     }
 }
 
@@ -73,7 +79,7 @@ pub fn squarings(f: Series, part: Part, t: Ticket) -> Wide
         row: t.row,
     };
     let range = range_of(f, part, t);
-    series::squarings::range_squarings(at, range.start, range.end)
+    series::squarings::range_squarings(at, range.first, range.end)
 }
 
 // What the refusal table says of working and of quoting: its tests in the order of their numbers.

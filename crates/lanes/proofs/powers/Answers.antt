@@ -7,4 +7,4 @@ use Rattle.lanes.proofs.powers.Goals as goal
 pub loop-i-init : goal.loop-i-init
 loop-i-init c = λ j h.
     let e = c.requires j h in
-    begun _ _ _ _ e.0 (c.top-i.ensures ∙ sym e.1) (c.starts-x.ensures j h)
+    rw (sym (c.numbers.ensures j h)) (begun _ _ _ _ e.0 (c.top-i.ensures ∙ sym e.1) (c.starts-x.ensures j h))

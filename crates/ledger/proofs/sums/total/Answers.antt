@@ -12,4 +12,4 @@ loop-sum-init c = none_totalled _
 pub loop-sum-preserved : goal.loop-sum-preserved
 unfolding value_at
 loop-sum-preserved c =
-    total_next modulus (value_at c.args.sums) 0 _ _ _ c.loop-sum.invariant c.add-total.ensures
+    total_next modulus (value_at _) 0 _ _ _ c.loop-sum.invariant c.add-total.ensures
