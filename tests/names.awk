@@ -99,8 +99,9 @@ function module_of(path,    step, i, below) {
     return step[i - 1] below
 }
 
-# Functions, types and constants with their module, and with its last name alone; members of structs and enums, and the
-# functions of types, which may stand in another module of the type's crate.
+# Functions, types and constants with their module, and with its last name alone; members of structs and enums, also those
+# that are for proofs alone; and the functions and constants of a type, which may stand in another module of its crate and
+# are named by the type's own.
 function read_source(text,    name) {
     if (FNR == 1) {
         module = module_of(FILENAME)
@@ -116,12 +117,14 @@ function read_source(text,    name) {
         while (gsub(/<[^<>]*>/, "", holder)) continue
         sub(/ *\{ *$/, "", holder)
         holder = last_word(holder)
-    } else if (holder != "" && match(text, /^    (pub )?((fn|const) )?[A-Za-z][A-Za-z0-9_]*/)) {
+        is_impl = 1
+    } else if (holder != "" && match(text, /^    (pub )?((fn|const|ghost) )?[A-Za-z][A-Za-z0-9_]*/)) {
         name = last_word(substr(text, 1, RLENGTH))
         define_member(name)
+        if (text ~ /^    ghost /) return
         item[holder "::" name]
-        item[module "::" holder "::" name]
-        item[first_step(module) "::" holder "::" name]
+        if (is_impl) of_type[first_step(module), holder, name]
+        else item[module "::" holder "::" name]
     } else if (match(text, /^(pub )?(extern "C" )?(fn|struct|enum|const|static|mod|type) [A-Za-z][A-Za-z0-9_]*/)) {
         name = last_word(substr(text, 1, RLENGTH))
         define(name)
@@ -129,6 +132,7 @@ function read_source(text,    name) {
         item[last_step(module) "::" name]
         if (text ~ /(struct|enum) [^(]*\{/) {
             holder = name
+            is_impl = 0
             has_members[holder]
         }
     }
@@ -317,7 +321,8 @@ function compare_item(token, place,    above) {
     else if (above in is_module) found = above
     if (token in is_module) return "module"
     if ((place "::" token) in item) return "name"
-    check(token in item, token, found == "" ? "no module or type " above : "not in " above)
+    check(token in item || above in item && (first_step(token), last_step(above), last_step(token)) in of_type, token, \
+        found == "" ? "no module or type " above : "not in " above)
     return found == "" ? "other" : "function"
 }
 

@@ -1,6 +1,7 @@
 # sources.awk - what sources.sh asks of the sources, all of which it reads. A function is named by its crate and module,
 # as crate::module::function, and one of an impl by its type as well, as crate::module::Type::function; which functions
-# it calls is read from its body. Prints the number of checks, or the first that fails on standard error.
+# it calls, or hands on to be called, is read from its body. Prints the number of checks, or the first that fails on
+# standard error.
 
 FNR == 1 { module = module_of(FILENAME) }
 
@@ -9,30 +10,41 @@ FNR == 1 { module = module_of(FILENAME) }
     sub(/\/\/.*/, "")
 }
 
-/^(pub )?use / { read_use($0) }
+/(^|[^A-Za-z0-9_])use / && !/^ghost use / { read_use($0) }
 
-FNR == 1 { type = "" }
-/^impl/ { type = type_of($0) }
+FNR == 1 { type = of_trait = "" }
+/^(pub )?struct .*\{$/ { type = type_of($0) }
+/^impl/ { read_impl($0) }
+
+# A value of such a type is called by a name that says nothing of the function.
+/(^|[^A-Za-z0-9_])(fn ?\(|dyn )/ { fail(FILENAME ":" FNR ": the type of a function") }
+
+# A constant is made in no function, and could have any count.
+module ~ /^montgomery::counted/ && /(^| )(const|static) / { fail(FILENAME ":" FNR ": a constant beside the count") }
 
 /(^|[^A-Za-z0-9_])fn [A-Za-z_]/ {
     if ($0 !~ ("^" margin() "(pub )?(extern \"\" )?fn ")) fail(FILENAME ":" FNR ": a function that does not start its line")
     name = $0
     sub(/^.*fn /, "", name)
-    sub(/(<'a>)?\(.*/, "", name)
+    sub(/[<(].*/, "", name)
     if (type != "") methods["." name] = methods["." name] " " module "::" type "::" name
     name = module "::" (type == "" ? "" : type "::") name
     signature[name] = $0
     if (name in known) fail(name ": written twice")
     known[name]
+    if (of_trait) implied = implied " " name
     if (/\{.*\}/) fail(name ": a body in the line of its name")
     inside = /\{ *$/
     next
 }
 
-/^\}/ { type = "" }
+# A head may take several lines.
+!inside && is_open(signature[name]) { signature[name] = signature[name] $0 }
+
+/^\}/ { type = of_trait = "" }
 $0 ~ ("^" margin() "\\}") || /^\}/ { inside = 0 }
-!inside && module == "montgomery::counted" && /squarings: / { count_is = $0 }
-!inside && module == "overlap" && /^    pub digits: / { digits_are = $0 }
+!inside && module == "montgomery::counted" && type == "Counted" && /squarings: / { count_is = $0 }
+!inside && module == "overlap" && type == "Laid" && /^    pub digits: / { digits_are = $0 }
 inside { body[name] = body[name] " " of_type($0) }
 $0 ~ ("^" margin() "\\{") { inside = 1 }
 
@@ -89,7 +101,7 @@ function margin() {
     return type == "" ? "" : "    "
 }
 
-# The type that an impl is of, without its parameters.
+# The type of an impl or a struct, without its parameters.
 function type_of(line) {
     while (gsub(/<[^<>]*>/, "", line)) continue
     sub(/ *\{ *\}? *$/, "", line)
@@ -99,8 +111,23 @@ function type_of(line) {
 
 # A line of an impl, where Self is its type.
 function of_type(line) {
-    if (type != "") gsub(/Self::/, type "::", line)
+    if (type != "") gsub(/Self/, type, line)
     return line
+}
+
+# The impl of a type alone. What a trait's impl has is called without a name, by an operator, a conversion or `?`, so the
+# functions of the one that there is count as called everywhere. What a derive writes is the kit's.
+function read_impl(text,    lives) {
+    type = type_of(text)
+    lives = "(<'[a-z](, '[a-z])*>)?"
+    of_trait = text == "impl From<u64> for Wide {"
+    if (!of_trait && text !~ ("^impl" lives " [A-Z][A-Za-z0-9]*" lives " \\{$"))
+        fail(FILENAME ":" FNR ": not the impl of a type alone")
+}
+
+# Whether the parentheses of a function's head are not closed yet.
+function is_open(text) {
+    return gsub(/\(/, "(", text) > gsub(/\)/, ")", text)
 }
 
 function crate_of(name) {
@@ -127,27 +154,39 @@ function read_use(text,    above, last, list, k) {
 function joined(name, text) {
     if (gsub(/\{/, "{", text) != gsub(/\}/, "}", text)) fail(name ": braces that do not match")
     gsub(/[ \t]+/, " ", text)
+    gsub(/ *:: */, "::", text)
     gsub(/\( /, "(", text)
     gsub(/,? \)/, ")", text)
     gsub(/^ | $/, "", text)
     return text
 }
 
-# The functions that a text of the module calls, each behind a blank. A method is called with a point in front, and is
-# that of each type with one of its name; another one, or a macro, with a mark behind, has no source here. A capital
-# letter is a struct's or a variant's.
-function called(text, module,    list, name) {
+# The functions that a text of the function calls or hands on, each behind a blank. A method has a point in front; one that
+# no type here has, or a macro, with a mark behind, has no source here.
+function called(text, name,    list, word, calls) {
     gsub(/::<[^<>]*>/, "", text)
     gsub(/\.\.=?/, " ", text)
-    while (match(text, /[.A-Za-z_][A-Za-z0-9_:.]*!? ?\(/)) {
-        name = substr(text, RSTART, RLENGTH - 1)
+    while (match(text, /(\.|::)?[A-Za-z_]([A-Za-z0-9_]|::)*!?/)) {
+        word = substr(text, RSTART, RLENGTH)
         text = substr(text, RSTART + RLENGTH)
-        sub(/ $/, "", name)
-        if (name ~ /^(as|else|if|in|let|match|mut|return|while)$/ || name ~ /(^|::)[A-Z][A-Za-z0-9]*$/) continue
-        if (!sub(/.*\./, ".", name) && name !~ /!/) name = full(name, module)
-        list = list (name ~ /^\./ && substr(name, 2) in methods ? methods[substr(name, 2)] : " " name)
+        calls = sub(/::$/, "", word) || word ~ /!$/ || text ~ /^ ?\(/
+        if (calls ? is_other(word) : !hands_on(word, text, name)) continue
+        list = list " " (word ~ /^\.|!$/ ? word : full(word, module_in(name)))
     }
     return list
+}
+
+# What stands before a parenthesis and calls nothing. A capital letter is a struct's or a variant's.
+function is_other(word) {
+    return word ~ /^(as|else|if|in|let|match|mut|return|while)$/ || word ~ /(^|::)[A-Z][A-Za-z0-9]*$/
+}
+
+# Whether a word that calls nothing hands on a function: it is the path of one, or its name. Fields are set apart, and the
+# function's own parameters; another variable of a function's name counts as that function.
+function hands_on(word, rest, name) {
+    if (word ~ /^\./ || rest ~ /^ ?:/) return 0
+    if (word ~ /::[a-z_][A-Za-z0-9_]*$/) return 1
+    return full(word, module_in(name)) in known && signature[name] !~ ("[( ]" word ": ")
 }
 
 # A path in the module, from its crate on.
@@ -160,8 +199,8 @@ function full(path, module,    head, rest) {
     return path
 }
 
-# Collects in seen[] the functions of the list, those that they call, and so on. Which type a method is called at is not
-# read, so that the methods of that name are all collected.
+# Collects in seen[] the functions of the list, those that they call or hand on, and so on. Which type a method is called
+# at is not read, so that the methods of that name are all collected.
 function reach(list, seen,    todo, many, part, k, name) {
     split("", seen)
     many = split(list, todo, " ")
@@ -170,7 +209,7 @@ function reach(list, seen,    todo, many, part, k, name) {
         if (name in seen) continue
         seen[name]
         if (name in known)
-            for (k = split(called(body[name], module_in(name)), part, " "); k > 0; k--) todo[++many] = part[k]
+            for (k = split(called(body[name], name), part, " "); k > 0; k--) todo[++many] = part[k]
         if (name in methods) for (k = split(methods[name], part, " "); k > 0; k--) todo[++many] = part[k]
     }
 }
@@ -223,7 +262,7 @@ function compare_loop(name, top,    text, head, seen, callee, wanted, k) {
     head = "for i in (0.." top ").rev()"
     check(branches(text) == " for", name ": the branches" branches(text) ", not one for")
     check(counts(text, "i", head), name ": the loop does not count i down to 0")
-    reach(called(block(text, head), module_in(name)), seen)
+    reach(called(block(text, head), name) implied, seen)
     for (callee in seen) {
         check(callee in known, callee ": called in the loop of " name ", and has no source")
         check(branches(body[callee]) == "" || crate_of(callee) == "lanes" && counts_up(body[callee]), \
@@ -277,17 +316,19 @@ function compare_doubling(name,    part, many, shifted, less) {
     check(less != "", name ": not N subtracted with wrapping: " part[2])
     check(many == 3 && part[3] == "MontgomeryResidue(smaller(" shifted ", " less "))", \
         name ": not the smaller of the two: " part[3])
-    check(called(body[name], module_in(name)) == " words::wrapping_sub montgomery::smaller", \
-        name ": calls" called(body[name], module_in(name)))
+    check(called(body[name], name) == " words::wrapping_sub montgomery::smaller", name ": calls" called(body[name], name))
 }
 
 # A residue with its count is made where it starts, is squared or doubled, and nowhere else; the square counts one. That
-# the count is private is what the compiler holds the other modules to.
+# the count is private is what the compiler holds the other modules to. In its own one could be made or changed by another
+# name of the type, so that no other function there has a brace, an equals sign or a `&mut`.
 function compare_count(module,    name) {
     check(count_is ~ /^ *squarings: u64,$/, module "::Counted: the count is not private")
-    for (name in body)
-        if (body[name] ~ /(^|[^A-Za-z0-9_])Counted \{/)
-            check(name ~ ("^" module "::(start|square|double)$"), name ": makes a residue with a count")
+    for (name in body) {
+        if (name ~ ("^" module "::(start|square|double)$")) continue
+        check(body[name] !~ /(^|[^A-Za-z0-9_])Counted \{/, name ": makes a residue with a count")
+        check(index(name, module "::") != 1 || body[name] !~ /[{=]|&mut /, name ": could make a residue with a count")
+    }
     compare_made(module "::start", "crate::start(n)", "0")
     compare_made(module "::square", "crate::square(x.residue, m)", "x.squarings + 1")
     compare_made(module "::double", "crate::double(x.residue, bit, n)", "x.squarings")
@@ -336,19 +377,19 @@ function compare_quote(name,    seen, callee, many) {
     check(many > 0, name ": does not come to series::squarings")
 }
 
-# What the kit gives: a function or a method of numbers, arrays, slices, iterators and the like. A method that an impl
-# here has is collected with its source, and a closure is read where it is written.
-function of_kit(callee) {
-    return callee ~ /^(std::(num|array)::[a-z0-9_]+|[iu](8|16|32|64|size)::[a-z0-9_]+|\.[a-z0-9_]+)$/
+# What working calls of the kit, all by name: methods, with a point in front, and functions. Where a type here has a method
+# of such a name, that is collected as well, and a closure is read where it is written.
+function of_kit(callee,    names) {
+    names = " .ilog2 .iter_mut .len .rev .wrapping_add .wrapping_neg .wrapping_sub i64::from std::array::from_fn "
+    return index(names, " " callee " ")
 }
 
 # Working comes to both powers, and to no quote: a count is made and not looked up.
 function compare_work(name,    seen, callee) {
-    reach(name, seen)
-    for (callee in seen) {
-        check(callee in known || of_kit(callee), name ": comes to " callee ", which has no source")
-        check(!is_quote(callee), name ": comes to the quote " callee)
-    }
+    reach(name implied, seen)
+    for (callee in seen) check(!is_quote(callee), name ": comes to the quote " callee)
+    for (callee in seen)
+        check(callee in known || callee in methods || of_kit(callee), name ": comes to " callee ", which has no source")
     check("montgomery::power" in seen, name ": does not come to montgomery::power")
     check("lanes::powers" in seen, name ": does not come to lanes::powers")
     check("series::halves::by_halves" in seen, name ": does not come to series::halves::by_halves")

@@ -3,8 +3,9 @@
 # term and of a group, have no branch but their own, nor has a function that they come to, in any module, but for loops
 # over the lanes. The doubling shifts by the bit, subtracts with wrapping and takes the smaller. The count of squarings
 # is made with the square. The recursion cuts at half of the count and calls itself for both parts. Working comes to no
-# quote. The part of two strings is returned, and the call that writes its place comes to it. Then copies that are
-# damaged in one way each have to fail.
+# quote. The part of two strings is returned, and the call that writes its place comes to it. Calls are read by the names
+# that they have: of traits there is the one impl whose functions are read at all times, and no type is a function's. Then
+# copies that are damaged in one way each have to fail.
 set -u
 crates=$1
 name=sources
@@ -131,6 +132,26 @@ with montgomery::modulus 'impl Residue {
 }'
 in_function montgomery::square "s/let q = .*/& let s = crate::modulus::Residue::chosen(q);/"
 told "montgomery::modulus::Residue::chosen: $in_power the branches if else"
+unread='not the impl of a type alone'
+with montgomery 'impl std::ops::Add for Residue {
+    type Output = u64;
+
+    fn add(self, other: Residue) -> u64 {
+        if self.0 > other.0 { self.0 } else { other.0 }
+    }
+}'
+in_function montgomery::square 's/let carried = .*/& let more = Residue(hi) + Residue(lo);/'
+told "$unread"
+with montgomery 'impl std::ops::Neg for Residue {
+    type Output = u64;
+
+    fn neg(self) -> u64 {
+        if self.0 > 1 { 0 } else { self.0 }
+    }
+}'
+in_function montgomery::square 's/let carried = .*/& let more = -Residue(hi);/'
+told "$unread"
+damaged words::Wide::from 's/hi: 0/hi: if word > 1 { 1 } else { 0 }/' "words::Wide::from: $in_power the branches if else"
 damaged lanes::turns 's/x\[j\] = .*/if i > 1 { & }/' "lanes::turns: $in_powers the branches for if"
 damaged lanes::turns 's/0\.\.8/0..many/' "lanes::turns: $in_powers the branches for"
 damaged lanes::turns 's/0\.\.8/(e[0] as usize \& 1)..8/' "lanes::turns: $in_powers the branches for"
@@ -165,10 +186,42 @@ told "montgomery::double: calls montgomery::words::wrapping_sub montgomery::smal
 # The count.
 in_module montgomery::counted 's/^    squarings: u64,/    pub squarings: u64,/'
 told "montgomery::counted::Counted: the count is not private"
+in_module montgomery::counted 's/^    squarings: u64,/    pub squarings: u64,/'
+with montgomery::counted 'pub struct Other {
+    squarings: u64,
+}'
+told "montgomery::counted::Counted: the count is not private"
 damaged $power 's/crate::counted::start\(m\.n\)/Counted { residue: start(m.n), squarings: 0 }/' \
     "$power: makes a residue with a count"
 damaged montgomery::counted::squarings 's/x\.squarings/Counted { residue: x.residue, squarings: 63 }.squarings/' \
     "montgomery::counted::squarings: makes a residue with a count"
+with montgomery::counted 'impl Counted {
+    pub fn known(residue: MontgomeryResidue, squarings: u64) -> Self {
+        Self { residue, squarings }
+    }
+}'
+told "montgomery::counted::Counted::known: makes a residue with a count"
+with montgomery::counted 'type Other = Counted;
+
+pub fn known(residue: MontgomeryResidue, squarings: u64) -> Counted
+{
+    Other { residue, squarings }
+}'
+told "montgomery::counted::known: could make a residue with a count"
+for change in 'x.squarings = squarings' 'std::mem::swap(\&mut x.squarings, \&mut squarings)'; do
+    with montgomery::counted 'pub fn known(mut x: Counted, mut squarings: u64) -> Counted
+{
+    let changed = x;
+    x
+}'
+    in_function montgomery::counted::known "s/let .*/$change;/"
+    told "montgomery::counted::known: could make a residue with a count"
+done
+with montgomery::counted 'pub const KNOWN: Counted = Counted {
+    residue: MontgomeryResidue(1),
+    squarings: 63,
+};'
+told "a constant beside the count"
 damaged montgomery::counted::start 's/squarings: 0/squarings: 63/' "montgomery::counted::start: not "
 damaged montgomery::counted::square 's/x\.squarings \+ 1/x.squarings/' "montgomery::counted::square: not "
 damaged montgomery::counted::square 's/crate::square\(.*\)/x.residue/' ": not called in the loop of $power"
@@ -212,7 +265,7 @@ with words 'impl Wide {
 }'
 in_function ticket::sum 's/let range = /let bill = first.bill(); &/'
 told "${work}_work: comes to the quote "
-damaged series::store::Store::filled 's/crate::terms::size\(.*\);/& let c = crate::squarings::reaching(terms.numbers, 128);/' \
+damaged series::store::Store::fill 's/crate::terms::size\(.*\);/& let c = crate::squarings::reaching(terms.numbers, 128);/' \
     "${work}_work: comes to the quote series::squarings::reaching"
 for call in work work_lower work_upper check_work check_work_lower check_work_upper; do
     damaged ${work}_$call 's/ticket::work\(/ticket::quote(/' "${work}_$call: comes to the quote "
@@ -228,12 +281,91 @@ told "engine::quotes::bbp_quote: does not come to the ticket's quote"
 damaged ticket::squarings 's/series::squarings::/series::bills::/' \
     "engine::quotes::bbp_quote: does not come to series::squarings"
 
+# A function that is handed on, or held, and none of its calls in sight.
+quoting='pub fn billed(k: u64) -> u64
+{
+    crate::squarings::reaching(NUMBERS, k)
+}'
+for way in 'Some(k).map(billed)' 'std::array::from_fn(billed)' 'std::array::from_fn(crate::terms::billed)' \
+    'std::array::from_fn(crate :: terms :: billed)' 'Bill { by: billed }'; do
+    for made in "$quoting" "${quoting/billed/billed<T>}"; do
+        with series::terms "$made"
+        in_function series::terms::size "s/let fall = /let bill = $way; &/"
+        told "${work}_work: comes to the quote series::squarings::reaching"
+    done
+done
+with series::terms 'impl Numbers {
+    pub fn billed(self) -> u64 {
+        crate::squarings::reaching(self, 128)
+    }
+}'
+in_function series::terms::size 's/let fall = /let bill = Some(numbers).map(Numbers::billed); &/'
+told "${work}_work: comes to the quote series::squarings::reaching"
+damaged series::terms::size 's/let fall = /use crate::squarings::reaching; &/' "not the use of names"
+for held in 'fn(Numbers, u64)' '\&dyn Fn(Numbers, u64)'; do
+    with series::terms 'const BILLED: HELD -> u64 = crate::squarings::reaching;'
+    in_module series::terms "s/HELD/$held/"
+    told "the type of a function"
+done
+with ticket 'pub fn handed(
+    squarings: &mut [u8],
+)
+{
+    words::put(squarings, 0, 8, 1);
+}'
+in_function ticket::work 's/let worked = /handed(squarings); &/'
+in_function ticket::sum 's/let range = /let none = Worked { sum: Wide::ZERO, squarings: Wide::ZERO }; &/'
+same "the status of parameters and fields with a quote's name" "$(asked "$scratch/crates" >"$scratch/out"; echo $?)" 0
+copied
+
+# unlisted EXPRESSION CALLEE - in a body that working comes to. Of the kit it calls some names alone.
+unlisted() {
+    damaged series::terms::size "s/let fall = /let bill = $1; &/" "${work}_work: comes to $2, which has no source"
+}
+unlisted 'Some(k).map(|x| x)' .map
+unlisted 'k.into()' .into
+unlisted 'std::array::repeat(k)' std::array::repeat
+unlisted 'u64::from_be(k)' u64::from_be
+unlisted 'std::array::from_fn(<Numbers>::billed)' ::billed
+unlisted 'std::array::from_fn(Other::billed)' Other::billed
+unlisted 'billed![k]' billed!
+
+# What is called without a name: a conversion, also by `?`, and an operator.
+for way in 'k.into()' 'Err(k)?'; do
+    with series::terms 'impl From<u64> for Numbers {
+    fn from(least: u64) -> Numbers {
+        crate::squarings::reaching(NUMBERS, least)
+    }
+}'
+    in_function series::terms::size "s/let fall = /let bill: Numbers = $way; &/"
+    told "$unread"
+done
+with series::terms 'impl std::ops::Add for Worked {
+    fn add(self, other: Worked) -> Worked {
+        crate::squarings::reaching(NUMBERS, 128)
+    }
+}'
+in_function series::terms::range_sum 's/Worked \{.*\}/& + &/'
+told "$unread"
+with series::squarings 'pub fn whole(word: u64) -> u64
+{
+    word
+}'
+cp "$(file_of words)" "$(file_of calls::words)"
+in_function calls::words::Wide::from 's/lo: word/lo: series::squarings::whole(word)/'
+told "${work}_work: comes to the quote series::squarings::whole"
+
 # The part of two strings.
 part=overlap::part
 damaged $part "s/fn part<'a>/fn other<'a>/" "$part: no source"
 damaged $part "s/-> &'a \[u8\]/-> [u8; 30]/" "$part: does not return a part"
 damaged $part "s/second: &Laid<'a>/second: \&Laid<'b>/" "$part: does not return a part"
 in_module overlap "s/^    pub digits: &'a \[u8\],/    pub digits: [u8; 30],/"
+told "$part: the digits are not lent"
+in_module overlap "s/^    pub digits: &'a \[u8\],/    pub digits: [u8; 30],/"
+with overlap "pub struct Other<'a> {
+    pub digits: &'a [u8],
+}"
 told "$part: the digits are not lent"
 damaged overlap::overlap_part 's/= part\(/= copied(/' "engine::overlaps::bbp_overlap_part: does not come to $part"
 damaged engine::overlaps::bbp_overlap_part 's/overlap::overlap_part\(/overlap::place_of(/' \
